@@ -1,0 +1,91 @@
+//! The C entries of the archive, and their answers as values that can be compared.
+use inputs::Scene;
+
+#[link(name = "entries", kind = "static")]
+extern "C" {
+    fn bezorika_orientation(
+        ax: f64,
+        ay: f64,
+        bx: f64,
+        by: f64,
+        cx: f64,
+        cy: f64,
+        sign: &mut i64,
+        place: &mut u64,
+    ) -> u64;
+    fn bezorika_crossing(
+        ax: f64,
+        ay: f64,
+        bx: f64,
+        by: f64,
+        cx: f64,
+        cy: f64,
+        dx: f64,
+        dy: f64,
+        kind: &mut u64,
+        corners: &mut [f64; 4],
+        place: &mut u64,
+    ) -> u64;
+}
+
+/// What was lent; an entry that writes where it should not changes it.
+const LENT: f64 = 77.0;
+const LENT_PLACE: u64 = 77;
+
+/// A number for none, a point, an overlap or lost; zeros alike, so that equality is of bits.
+#[derive(PartialEq)]
+pub struct Crossed {
+    kind: u64,
+    corners: [u64; 4],
+}
+
+impl Crossed {
+    /// The Rust's answer: as many points as the kind says, or lost where one is not a number.
+    #[inline]
+    pub fn at(list: &[f64]) -> Self {
+        let mut corners = [LENT.to_bits(); 4];
+        if list.iter().any(|x| x.is_nan()) {
+            return Crossed { kind: 3, corners };
+        }
+        for (to, from) in corners.iter_mut().zip(list) {
+            *to = zeros_alike(*from);
+        }
+        Crossed { kind: list.len() as u64 / 2, corners }
+    }
+}
+
+fn zeros_alike(x: f64) -> u64 {
+    if x == 0.0 {
+        0
+    } else {
+        x.to_bits()
+    }
+}
+
+/// `None` where it is refused, or the place did not stay as lent.
+#[inline]
+pub fn orientation([a, b, c, _]: Scene) -> Option<i64> {
+    let (mut sign, mut place) = (LENT_PLACE as i64, LENT_PLACE);
+    // SAFETY: both references are to numbers of our own.
+    let code = unsafe { bezorika_orientation(a[0], a[1], b[0], b[1], c[0], c[1], &mut sign, &mut place) };
+    if (code, place) == (0, LENT_PLACE) {
+        Some(sign)
+    } else {
+        None
+    }
+}
+
+/// `None` where it is refused, or the place did not stay as lent.
+#[inline]
+pub fn crossing([a, b, c, d]: Scene) -> Option<Crossed> {
+    let (mut kind, mut corners, mut place) = (LENT_PLACE, [LENT; 4], LENT_PLACE);
+    // SAFETY: the references are to numbers of our own, and there are four corners' places.
+    let code = unsafe {
+        bezorika_crossing(a[0], a[1], b[0], b[1], c[0], c[1], d[0], d[1], &mut kind, &mut corners, &mut place)
+    };
+    if (code, place) == (0, LENT_PLACE) {
+        Some(Crossed { kind, corners: corners.map(zeros_alike) })
+    } else {
+        None
+    }
+}

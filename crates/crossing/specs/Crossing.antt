@@ -1,0 +1,31 @@
+-- Crossing of two segments, a1-a2 and b1-b2 (01, 'Crossing'): nothing where their boxes lie apart, else what the lines have in common,
+-- clamped to the shared box, or Lost. It is a computation on binary64, not the exact crossing.
+use mathlib.Core.Bool.{cond}
+use mathlib.Core.List.{List, [], _∷_}
+use lib.Dec.{ltb}
+use lib.ListN.{length}
+use lib.Ieee.{Float}
+use Rattle.numbers.specs.Binary64.{firstNotFinite}
+use Rattle.numbers.specs.declared.Coordinate.{Coordinate}
+use Rattle.crossing.specs.declared.LineIntersection.{LineIntersection}
+use Rattle.crossing.specs.declared.LineIntersection.the-variants.{None}
+use Rattle.crossing.specs.declared.boxes.Boxes.{Boxes}
+use Rattle.crossing.specs.declared.boxes.Boxes.the-variants.{Apart, Share}
+use Rattle.crossing.specs.declared.Crossed.{Crossed}
+use Rattle.crossing.specs.declared.Crossed.the-variants.{Refused, Found}
+use Rattle.crossing.specs.Boxes.{sharedBox, constrainedTo, orLost}
+use Rattle.crossing.specs.Lines.{intersectionImpl}
+
+unfoldable pub inBox : Boxes → LineIntersection → LineIntersection
+inBox Apart found = None
+inBox (Share bb) found = orLost (constrainedTo found bb)
+
+unfoldable pub intersectionOf : Coordinate → Coordinate → Coordinate → Coordinate → LineIntersection
+intersectionOf a1 a2 b1 b2 = inBox (sharedBox a1 a2 b1 b2) (intersectionImpl a1 a2 b1 b2)
+
+-- the public call on eight numbers: refusal 2 with the place of the first that is not finite
+unfoldable pub crossingOf : Float → Float → Float → Float → Float → Float → Float → Float → Crossed
+crossingOf ax ay bx by cx cy dx dy =
+    let first = firstNotFinite (ax ∷ ay ∷ bx ∷ by ∷ cx ∷ cy ∷ dx ∷ dy ∷ []) in
+    cond (ltb first 8) (Refused (record { number = 2; place = first }))
+    (Found (intersectionOf (record { x = ax; y = ay }) (record { x = bx; y = by }) (record { x = cx; y = cy }) (record { x = dx; y = dy })))

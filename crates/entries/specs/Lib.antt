@@ -1,0 +1,3 @@
+-- What the C entries hand back.
+pub mod ToldTurn
+pub mod ToldCrossing

@@ -1,0 +1,3 @@
+-- Laws about numbers that the crates above cite.
+pub mod Ends
+pub mod First

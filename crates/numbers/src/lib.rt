@@ -1,0 +1,65 @@
+// Binary64 numbers and the plain structs of them (`helper.rs`).
+ghost use mathlib.Core.Path.{_≡_};
+ghost use Rattle.numbers.specs.Binary64.{notFinite, firstNotFinite, unfit, minimum, maximum};
+
+pub struct Coordinate {
+    pub x: f64,
+    pub y: f64,
+}
+
+pub struct BoundingBox {
+    pub min: Coordinate,
+    pub max: Coordinate,
+}
+
+pub fn not_finite(x: f64) -> bool
+    ensures { λ r. ⌜ r ≡ notFinite x ⌝ }
+{
+    let infinity = f64::from_bits(0x7ff0_0000_0000_0000);
+    if x < infinity {
+        return x <= -infinity;
+    }
+    true
+}
+
+// The place of the first number that is not finite; the length where all are.
+pub fn first_not_finite(numbers: &[f64]) -> usize
+    ensures { λ r. ⌜ r ≡ firstNotFinite (now (numbers .entry)) ⌝ }
+{
+    let mut i = 0;
+    while i < numbers.len() {
+        if not_finite(numbers[i]) {
+            return i;
+        }
+        i += 1;
+    }
+    i
+}
+
+// Not finite, or above 2^100 in size: what loading and the pool refuse.
+pub fn is_unfit(x: f64) -> bool
+    ensures { λ r. ⌜ r ≡ unfit x ⌝ }
+{
+    if -1267650600228229401496703205376.0 <= x {
+        return !(x <= 1267650600228229401496703205376.0);
+    }
+    true
+}
+
+pub fn min(a: f64, b: f64) -> f64
+    ensures { λ r. ⌜ r ≡ minimum a b ⌝ }
+{
+    if a != a {
+        return b;
+    }
+    if b < a { b } else { a }
+}
+
+pub fn max(a: f64, b: f64) -> f64
+    ensures { λ r. ⌜ r ≡ maximum a b ⌝ }
+{
+    if a != a {
+        return b;
+    }
+    if a < b { b } else { a }
+}

@@ -1,0 +1,4 @@
+-- Orientation is what this crate promises; the rest is for its private functions.
+pub mod Orientation
+pub mod Parts
+pub mod Words

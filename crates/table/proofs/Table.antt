@@ -1,0 +1,25 @@
+-- The table holds: every row computes.
+use mathlib.Core.Path.{refl}
+use lib.Ieee.{add, sub, mul, div, lt, le, eq, ne, ofBits}
+use Rattle.numbers.specs.Exact.{size, negative}
+use Rattle.orientation.specs.Orientation.{signedArea, signOf}
+use Rattle.crossing.specs.Boxes.{boxFrom, sharedBox, clamp, constrainedTo, orLost}
+use Rattle.crossing.specs.Lines.{minus, crossingAt, sharedFrom, along, intersectionImpl}
+use Rattle.crossing.specs.Crossing.{inBox, intersectionOf}
+use Rattle.crossing.specs.Answer.{numberOf, valuesOf}
+use Rattle.table.specs.Table.{Table}
+
+pub table : Table
+unfolding numberOf valuesOf intersectionOf inBox orLost constrainedTo clamp intersectionImpl along sharedFrom crossingAt minus sharedBox boxFrom add sub mul div lt le eq ne ofBits signedArea signOf size negative
+table =
+    record {
+      P1 = record { number-is = refl; values-are = refl };
+      P2 = record { number-is = refl; values-are = refl };
+      P3 = record { number-is = refl; values-are = refl };
+      P4 = record { number-is = refl; values-are = refl };
+      P5 = record { number-is = refl; values-are = refl };
+      P6 = record { number-is = refl; values-are = refl };
+      P7 = record { number-is = refl; values-are = refl };
+      P8 = record { number-is = refl; values-are = refl };
+      P9 = refl;
+    }

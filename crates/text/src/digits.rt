@@ -1,0 +1,119 @@
+// Numbers as digits at a place: 16 lowercase hex digits of a 64-bit word, or decimal without leading zeros.
+ghost use mathlib.Core.Path.{_≡_};
+ghost use Prim.Native.Nat.{_<_, _≤_, _^_};
+ghost use lib.ListN.{length};
+ghost use lib.Seq.{sets};
+ghost use Rattle.text.specs.Digits.{digit, digits, hex, places, decimal, digitOf, value, hexAt};
+ghost use Rattle.text.specs.Words.{bytes};
+use crate::words::byte_at;
+use crate::words::put_byte;
+
+// The hex digits of a 64-bit word.
+pub const HEX_DIGITS: usize = 16;
+
+// What stands at a place: a number, or bytes that are no digits.
+pub enum Read {
+    Value(u64),
+    Nothing,
+}
+
+// The byte of a digit.
+fn digit_byte(d: u64) -> u8
+    requires { ⌜ d < 16 ⌝ }
+    ensures { λ r. ⌜ r ≡ digit d ⌝ }
+{
+    let b = d as u8;
+    if d < 10 {
+        return b'0' + b;
+    }
+    (b'a' - 10) + b
+}
+
+// Stores the last `count` digits of w from `at` on, the last one first.
+fn put_digits(buf: &mut [u8], at: usize, base: u64, count: usize, w: u64)
+    requires { ⌜ (1 < base) × (base ≤ 16) ⌝ }
+    ensures { λ _. ⌜ now (buf .exit) ≡ sets (now (buf .entry)) at (digits base count w) ⌝ }
+{
+    let mut k = count;
+    let mut v = w;
+    while k > 0 {
+        k -= 1;
+        let d = digit_byte(v % base);
+        put_byte(buf, at, k, d);
+        v = v / base;
+    }
+}
+
+// Stores the 16 hex digits of a word.
+pub fn put_hex(buf: &mut [u8], at: usize, w: u64)
+    ensures { λ _. ⌜ now (buf .exit) ≡ sets (now (buf .entry)) at (hex w) ⌝ }
+{
+    put_digits(buf, at, 16, HEX_DIGITS, w);
+}
+
+// How many digits w has in decimal.
+fn decimal_places(w: u64) -> usize
+    ensures { λ r. ⌜ r ≡ places 10 20 w ⌝ }
+{
+    let mut k = 0;
+    let mut rest = w;
+    while rest >= 10 {
+        rest = rest / 10;
+        k += 1;
+    }
+    k + 1
+}
+
+// Stores a number in decimal without leading zeros, and answers how many digits it has.
+pub fn put_decimal(buf: &mut [u8], at: usize, w: u64) -> usize
+    ensures { λ r. ⌜ r ≡ length (decimal w) ⌝ }
+    ensures { λ _. ⌜ now (buf .exit) ≡ sets (now (buf .entry)) at (decimal w) ⌝ }
+{
+    let n = decimal_places(w);
+    put_digits(buf, at, 10, n, w);
+    n
+}
+
+// The digit that a byte stands for; 16 where it is none.
+fn digit_of(b: u8) -> u64
+    ensures { λ r. ⌜ r ≡ digitOf b ⌝ }
+{
+    if b < b'0' {
+        return 16;
+    }
+    if b <= b'9' {
+        return (b - b'0') as u64;
+    }
+    if b < b'a' {
+        return 16;
+    }
+    if b <= b'f' {
+        return (b - (b'a' - 10)) as u64;
+    }
+    16
+}
+
+// The number that `count` digits from `at` on stand for.
+fn read_digits(s: &[u8], at: usize, base: u64, count: usize) -> Read
+    requires { ⌜ (0 < base) × (base ^ count ≤ 18446744073709551616) ⌝ }
+    ensures { λ r. ⌜ r ≡ value base 0 (bytes (now (s .entry)) at count) ⌝ }
+{
+    let mut v: u64 = 0;
+    let mut i = 0;
+    while i < count {
+        let d = digit_of(byte_at(s, at, i));
+        if d >= base {
+            return Read::Nothing;
+        }
+        v = v * base + d;
+        i += 1;
+    }
+    Read::Value(v)
+}
+
+// The word whose 16 hex digits stand at `at`.
+pub fn read_hex(s: &[u8], at: usize) -> Read
+    ensures { λ r. ⌜ r ≡ hexAt (now (s .entry)) at ⌝ }
+{
+    read_digits(s, at, 16, HEX_DIGITS)
+}

@@ -1,0 +1,121 @@
+/* The C entries through the header and the archive: P1 to P9 of document 01, and numbers that are not finite in every place. */
+#include <bezorika.h>
+#include <math.h>
+#include <stdio.h>
+#include <string.h>
+
+static int failed, ran;
+
+static void expect(int ok, const char *what, int where)
+{
+    ran++;
+    if (!ok) {
+        failed++;
+        printf("entries.c: %s, case %d\n", what, where);
+    }
+}
+
+/* What outputs hold before a call, so that a store nobody asked for shows. */
+static const uint64_t LENT = 77;
+static const double LENT_CORNER = -7.5;
+
+struct crossing {
+    double in[8];
+    uint64_t kind;
+    int written;
+    double corners[4];
+};
+
+#define TINY 0x1p-300
+#define HUGE 0x1p1023
+
+/* P1 to P8 */
+static const struct crossing CROSSINGS[] = {
+    {{0, 0, 2, 2, 0, 2, 2, 0}, BEZORIKA_POINT, 2, {1, 1}},
+    {{0, 0, 1, 0, 1, 0, 2, 0}, BEZORIKA_POINT, 2, {1, 0}},
+    {{0, 0, 2, 0, 1, 0, 3, 0}, BEZORIKA_OVERLAP, 4, {1, 0, 2, 0}},
+    {{1, 1, 1, 1, 0, 0, 2, 2}, BEZORIKA_NONE, 0, {0}},
+    {{0, 0, 2, 2, 1, 1, 1, 1}, BEZORIKA_OVERLAP, 4, {1, 1, 1, 1}},
+    {{0, 0, 2, 2, 0, 1, 2, 3}, BEZORIKA_NONE, 0, {0}},
+    {{0, 0, TINY, TINY, 0, TINY, TINY, 0}, BEZORIKA_OVERLAP, 4, {TINY / 2, TINY / 2, TINY / 2, TINY / 2}},
+    {{-HUGE, 0, HUGE, 0, 0, -1, 0, 1}, BEZORIKA_LOST, 0, {0}},
+};
+
+static uint64_t cross(const double in[8], uint64_t *kind, double corners[4], uint64_t *place)
+{
+    *kind = LENT;
+    *place = LENT;
+    for (int i = 0; i < 4; i++)
+        corners[i] = LENT_CORNER;
+    return bezorika_crossing(in[0], in[1], in[2], in[3], in[4], in[5], in[6], in[7], kind, corners, place);
+}
+
+static void crossings(void)
+{
+    uint64_t kind, place;
+    double corners[4];
+    for (int i = 0; i < 8; i++) {
+        const struct crossing *c = &CROSSINGS[i];
+        expect(cross(c->in, &kind, corners, &place) == 0, "crossing answered", i + 1);
+        expect(kind == c->kind, "kind of crossing", i + 1);
+        expect(place == LENT, "place as lent", i + 1);
+        for (int k = 0; k < 4; k++)
+            expect(corners[k] == (k < c->written ? c->corners[k] : LENT_CORNER), "corner", i + 1);
+    }
+}
+
+static uint64_t orient(const double in[6], int64_t *sign, uint64_t *place)
+{
+    *sign = (int64_t)LENT;
+    *place = LENT;
+    return bezorika_orientation(in[0], in[1], in[2], in[3], in[4], in[5], sign, place);
+}
+
+/* P9, its mirror image, and three points on a line */
+static void orientations(void)
+{
+    static const double in[3][6] = {{1, 1, 2, 2, 0x1p-60, 0}, {1, 1, 2, 2, 0, 0x1p-60}, {1, 1, 2, 2, 3, 3}};
+    static const int64_t wanted[3] = {-1, 1, 0};
+    int64_t sign;
+    uint64_t place;
+    for (int i = 0; i < 3; i++) {
+        expect(orient(in[i], &sign, &place) == 0, "orientation answered", i);
+        expect(sign == wanted[i], "sign", i);
+        expect(place == LENT, "place as lent", i);
+    }
+}
+
+/* Each number not finite alone, and then with all after it: the lowest place is told. */
+static void not_finite(double bad)
+{
+    double in[8], corners[4];
+    uint64_t kind, place;
+    int64_t sign;
+    for (int all = 0; all < 2; all++)
+        for (int at = 0; at < 8; at++) {
+            for (int i = 0; i < 8; i++)
+                in[i] = i == at || (all && i > at) ? bad : i;
+            expect(cross(in, &kind, corners, &place) == BEZORIKA_NOT_FINITE, "crossing refused", at);
+            expect(place == (uint64_t)at, "place of the number", at);
+            expect(kind == LENT, "kind as lent", at);
+            for (int k = 0; k < 4; k++)
+                expect(corners[k] == LENT_CORNER, "corner as lent", at);
+            if (at < 6) {
+                expect(orient(in, &sign, &place) == BEZORIKA_NOT_FINITE, "orientation refused", at);
+                expect(place == (uint64_t)at, "place of the number", at);
+                expect(sign == (int64_t)LENT, "sign as lent", at);
+            }
+        }
+}
+
+int main(void)
+{
+    crossings();
+    orientations();
+    not_finite(NAN);
+    not_finite(-NAN);
+    not_finite(INFINITY);
+    not_finite(-INFINITY);
+    printf("entries.c: %d of %d checks failed\n", failed, ran);
+    return failed != 0;
+}
