@@ -2,7 +2,7 @@
 use mathlib.Core.Bool.{Bool, true, false, not, cond}
 use mathlib.Core.List.{List, [], _∷_}
 use Prim.Native.Nat.{ℕ, suc}
-use lib.Ieee.{Float, nan, inf, fin, binary64, lt, le, ne, neg, ofBits}
+use lib.Ieee.{Float, nan, inf, fin, binary64, lt, le, ne, neg, fits, ofBits}
 
 -- 0.0 and 1.0, by their bits
 abbrev pub zero : Float
@@ -25,9 +25,9 @@ firstNotFinite (x ∷ xs) = cond (notFinite x) 0 (suc (firstNotFinite xs))
 abbrev pub limit : Float
 limit = ofBits binary64 0x4630_0000_0000_0000
 
--- not finite, or above 2^100 in size: a not-a-number compares with nothing
+-- not finite, or above 2^100 in size: a not-a-number compares with nothing. `Float` also has numbers that no binary64 holds; they are unfit too.
 unfoldable pub unfit : Float → Bool
-unfit x = cond (le (neg limit) x) (not (le x limit)) true
+unfit x = cond (fits binary64 x) (cond (le (neg limit) x) (not (le x limit)) true) true
 
 -- With one not-a-number the other is taken, of equals the first named. Only a not-a-number differs from itself.
 abbrev pub minimum : Float → Float → Float

@@ -1,0 +1,6 @@
+-- Edge class measured by the truth table of the set operations: one edge (`Truth`, by the tables of `Rows`), from an edge to the next above it
+-- (`Handing`), two edges in one place (`Coinciding`).
+pub mod Rows
+pub mod Truth
+pub mod Handing
+pub mod Coinciding

@@ -1,0 +1,3 @@
+-- Laws of the pool. Callers cite these and never look behind `rowAt` and `store`.
+pub mod Stored
+pub mod Rows

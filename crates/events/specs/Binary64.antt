@@ -1,0 +1,31 @@
+-- Binary64 as a kind of coordinate, and the plain crossing on it.
+use mathlib.Core.Bool.{Bool, not, _&&_}
+use lib.Ieee.{lt, eq}
+use Rattle.numbers.specs.Binary64.{unfit}
+use Rattle.numbers.specs.declared.Coordinate.{Coordinate}
+use Rattle.orientation.specs.Orientation.{signedArea}
+use Rattle.crossing.specs.declared.LineIntersection.{LineIntersection}
+use Rattle.crossing.specs.declared.LineIntersection.the-variants.{None, Point, Overlap, Lost}
+use Rattle.crossing.specs.Crossing.{intersectionOf}
+use Rattle.events.specs.Coordinates.{Coordinates, Cross, none, lost, point, overlap, Crossing}
+
+unfoldable pub binary64 : Coordinates Coordinate
+binary64 =
+    record {
+      fit = λ p. not (unfit (p .x)) && not (unfit (p .y));
+      lessX = λ p q. lt (p .x) (q .x);
+      lessY = λ p q. lt (p .y) (q .y);
+      sameX = λ p q. eq (p .x) (q .x);
+      sameY = λ p q. eq (p .y) (q .y);
+      turn = signedArea;
+    }
+
+unfoldable pub crossOf : LineIntersection → Cross Coordinate
+crossOf None = none
+crossOf (Point p) = point p
+crossOf (Overlap p q) = overlap p q
+crossOf Lost = lost
+
+-- the crossing as the source computes it
+unfoldable pub plain : Crossing Coordinate
+plain a1 a2 b1 b2 = crossOf (intersectionOf a1 a2 b1 b2)

@@ -1,0 +1,131 @@
+-- The pool: the two lent arrays, whole. It fixes every number of them; an event is read from it and stored in it by number.
+-- A flag is 1 for true and any other number for false; edge types and transitions are numbered as they are declared, the last one standing for all beyond.
+use mathlib.Core.Bool.{Bool, true, false, cond}
+use mathlib.Core.List.{List, [], _∷_}
+use Prim.Native.Nat.{ℕ, min}
+use lib.Dec.{eqb, ltb}
+use lib.ListN.{length, getD, set}
+use lib.Ieee.{Float, nan}
+use Rattle.numbers.specs.Binary64 as B
+use Rattle.numbers.specs.declared.Coordinate.{Coordinate}
+use Rattle.events.specs.declared.EdgeType.{EdgeType}
+use Rattle.events.specs.declared.EdgeType.the-variants.{Normal, NonContributing, SameTransition, DifferentTransition}
+use Rattle.events.specs.declared.ResultTransition.{ResultTransition}
+use Rattle.events.specs.declared.ResultTransition.the-variants.{None as NoTransition, InOut, OutIn}
+use Rattle.events.specs.declared.Link.{Link}
+use Rattle.events.specs.declared.Link.the-variants.{None, To}
+use Rattle.events.specs.Event.{Event}
+use Rattle.events.specs.Store.{Store}
+
+pub record Pool : Type 0 where
+  pub points : List (List Float)
+  pub marks : List (List ℕ)
+
+abbrev pub pool : List (List Float) → List (List ℕ) → Pool
+pool p m = record { points = p; marks = m }
+
+unfoldable pub size : Pool → ℕ
+size p = min (length (p .points)) (length (p .marks))
+
+-- ---- numbers for what a record holds
+
+unfoldable pub flagNumber : Bool → ℕ
+flagNumber b = cond b 1 0
+
+-- a link takes two numbers: 1 and where it leads, or 0 and 0
+unfoldable pub linkOf : ℕ → ℕ → Link
+linkOf there n = cond (eqb there 1) (To n) None
+
+unfoldable pub thereNumber : Link → ℕ
+thereNumber None = 0
+thereNumber (To n) = 1
+
+unfoldable pub linkNumber : Link → ℕ
+linkNumber None = 0
+linkNumber (To n) = n
+
+unfoldable pub edgeTypeOf : ℕ → EdgeType
+edgeTypeOf n = cond (eqb n 0) Normal (cond (eqb n 1) NonContributing (cond (eqb n 2) SameTransition DifferentTransition))
+
+unfoldable pub edgeTypeNumber : EdgeType → ℕ
+edgeTypeNumber Normal = 0
+edgeTypeNumber NonContributing = 1
+edgeTypeNumber SameTransition = 2
+edgeTypeNumber DifferentTransition = 3
+
+unfoldable pub transitionOf : ℕ → ResultTransition
+transitionOf n = cond (eqb n 0) NoTransition (cond (eqb n 1) InOut OutIn)
+
+unfoldable pub transitionNumber : ResultTransition → ℕ
+transitionNumber NoTransition = 0
+transitionNumber InOut = 1
+transitionNumber OutIn = 2
+
+-- ---- a record in its two rows
+
+unfoldable pub eventOf : List Float → List ℕ → Event Coordinate
+eventOf q m =
+    record {
+      point = record { x = getD q 0 nan; y = getD q 1 nan };
+      left = eqb (getD m 0 0) 1;
+      subject = eqb (getD m 1 0) 1;
+      ring = getD m 2 0;
+      partner = getD m 3 0;
+      below = linkOf (getD m 4 0) (getD m 5 0);
+      edgeType = edgeTypeOf (getD m 6 0);
+      transition = transitionOf (getD m 7 0);
+      inOut = eqb (getD m 8 0) 1;
+      otherInOut = eqb (getD m 9 0) 1;
+      contour = linkOf (getD m 10 0) (getD m 11 0);
+    }
+
+unfoldable pub pointOf : Event Coordinate → List Float
+pointOf e = e .point .x ∷ e .point .y ∷ []
+
+unfoldable pub marksOf : Event Coordinate → List ℕ
+marksOf e =
+    flagNumber (e .left)
+    ∷ flagNumber (e .subject)
+    ∷ e .ring
+    ∷ e .partner
+    ∷ thereNumber (e .below)
+    ∷ linkNumber (e .below)
+    ∷ edgeTypeNumber (e .edgeType)
+    ∷ transitionNumber (e .transition)
+    ∷ flagNumber (e .inOut)
+    ∷ flagNumber (e .otherInOut)
+    ∷ thereNumber (e .contour)
+    ∷ linkNumber (e .contour)
+    ∷ []
+
+-- what is read outside the pool: its own partner, so that it means the same under every numbering
+unfoldable pub blank : ℕ → Event Coordinate
+blank i =
+    record {
+      point = record { x = B.zero; y = B.zero };
+      left = false;
+      subject = false;
+      ring = 0;
+      partner = i;
+      below = None;
+      edgeType = Normal;
+      transition = NoTransition;
+      inOut = false;
+      otherInOut = false;
+      contour = None;
+    }
+
+-- ---- reading and storing by number
+
+unfoldable pub rowAt : Pool → ℕ → Event Coordinate
+rowAt p i =
+    cond (ltb i (length (p .points)))
+    (cond (ltb i (length (p .marks))) (eventOf (getD (p .points) i []) (getD (p .marks) i [])) (blank i))
+    (blank i)
+
+unfoldable pub store : Pool → ℕ → Event Coordinate → Pool
+store p i e = record { points = set (p .points) i (pointOf e); marks = set (p .marks) i (marksOf e) }
+
+-- the pool as a store of records
+unfoldable pub stored : Store Coordinate Pool
+stored = record { size = size; rowAt = rowAt; store = store; blank = blank }

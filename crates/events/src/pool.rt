@@ -1,0 +1,198 @@
+// The pool: event records in two arrays that the caller lends, read and stored by number.
+// Outside the pool a read gives a blank record, its own partner, and a store changes nothing: every number has an answer.
+ghost use mathlib.Core.Path.{_≡_};
+ghost use lib.ListN.{set};
+ghost use Rattle.events.specs.Event.{shown};
+ghost use Rattle.events.specs.Pool.{pool, rowAt, store, eventOf, pointOf, marksOf, flagNumber, linkOf, thereNumber, linkNumber, edgeTypeOf, edgeTypeNumber, transitionOf, transitionNumber, blank, stored};
+ghost use Rattle.events.specs.Store.{look};
+use crate::EdgeType;
+use crate::Event;
+use crate::Link;
+use crate::ResultTransition;
+use numbers::Coordinate;
+
+fn number_of_flag(b: bool) -> u32
+    ensures { λ r. ⌜ r ≡ flagNumber b ⌝ }
+{
+    if b { 1 } else { 0 }
+}
+
+fn link_of(there: u32, n: u32) -> Link
+    ensures { λ r. ⌜ r ≡ linkOf there n ⌝ }
+{
+    if there == 1 {
+        return Link::To(n);
+    }
+    Link::None
+}
+
+fn number_of_there(l: Link) -> u32
+    ensures { λ r. ⌜ r ≡ thereNumber l ⌝ }
+{
+    match l {
+        Link::None => 0,
+        Link::To(_) => 1,
+    }
+}
+
+fn number_of_link(l: Link) -> u32
+    ensures { λ r. ⌜ r ≡ linkNumber l ⌝ }
+{
+    match l {
+        Link::None => 0,
+        Link::To(n) => n,
+    }
+}
+
+fn edge_type_of(n: u32) -> EdgeType
+    ensures { λ r. ⌜ r ≡ edgeTypeOf n ⌝ }
+{
+    match n {
+        0 => EdgeType::Normal,
+        1 => EdgeType::NonContributing,
+        2 => EdgeType::SameTransition,
+        _ => EdgeType::DifferentTransition,
+    }
+}
+
+fn number_of_edge_type(t: EdgeType) -> u32
+    ensures { λ r. ⌜ r ≡ edgeTypeNumber t ⌝ }
+{
+    match t {
+        EdgeType::Normal => 0,
+        EdgeType::NonContributing => 1,
+        EdgeType::SameTransition => 2,
+        EdgeType::DifferentTransition => 3,
+    }
+}
+
+fn transition_of(n: u32) -> ResultTransition
+    ensures { λ r. ⌜ r ≡ transitionOf n ⌝ }
+{
+    match n {
+        0 => ResultTransition::None,
+        1 => ResultTransition::InOut,
+        _ => ResultTransition::OutIn,
+    }
+}
+
+fn number_of_transition(t: ResultTransition) -> u32
+    ensures { λ r. ⌜ r ≡ transitionNumber t ⌝ }
+{
+    match t {
+        ResultTransition::None => 0,
+        ResultTransition::InOut => 1,
+        ResultTransition::OutIn => 2,
+    }
+}
+
+fn event_of(p: [f64; 2], m: [u32; 12]) -> Event
+    ensures { λ r. ⌜ shown r ≡ eventOf p m ⌝ }
+{
+    Event {
+        point: Coordinate { x: p[0], y: p[1] },
+        left: m[0] == 1,
+        subject: m[1] == 1,
+        ring: m[2],
+        partner: m[3],
+        below: link_of(m[4], m[5]),
+        edge_type: edge_type_of(m[6]),
+        transition: transition_of(m[7]),
+        in_out: m[8] == 1,
+        other_in_out: m[9] == 1,
+        contour: link_of(m[10], m[11]),
+    }
+}
+
+fn blank_event(i: u32) -> Event
+    ensures { λ r. ⌜ shown r ≡ blank i ⌝ }
+{
+    Event {
+        point: Coordinate { x: 0.0, y: 0.0 },
+        left: false,
+        subject: false,
+        ring: 0,
+        partner: i,
+        below: Link::None,
+        edge_type: EdgeType::Normal,
+        transition: ResultTransition::None,
+        in_out: false,
+        other_in_out: false,
+        contour: Link::None,
+    }
+}
+
+pub fn read_event(points: &[[f64; 2]], marks: &[[u32; 12]], i: u32) -> Event
+    ensures { λ r. ⌜ shown r ≡ rowAt (pool (now (points .entry)) (now (marks .entry))) i ⌝ }
+{
+    let at = i as usize;
+    if at < points.len() {
+        if at < marks.len() {
+            return event_of(points[at], marks[at]);
+        }
+    }
+    blank_event(i)
+}
+
+// The same where only the first places are in use: what lies beyond them is outside the pool.
+pub fn read_used(points: &[[f64; 2]], marks: &[[u32; 12]], used: u32, i: u32) -> Event
+    ensures { λ r. ⌜ shown r ≡ look stored (pool (now (points .entry)) (now (marks .entry))) used i ⌝ }
+{
+    if i < used {
+        return read_event(points, marks, i);
+    }
+    blank_event(i)
+}
+
+fn point_of(e: Event) -> [f64; 2]
+    ensures { λ r. ⌜ r ≡ pointOf (shown e) ⌝ }
+{
+    [e.point.x, e.point.y]
+}
+
+fn marks_of(e: Event) -> [u32; 12]
+    ensures { λ r. ⌜ r ≡ marksOf (shown e) ⌝ }
+{
+    let below = e.below;
+    let edge_type = e.edge_type;
+    let transition = e.transition;
+    let contour = e.contour;
+    [
+        number_of_flag(e.left),
+        number_of_flag(e.subject),
+        e.ring,
+        e.partner,
+        number_of_there(below),
+        number_of_link(below),
+        number_of_edge_type(edge_type),
+        number_of_transition(transition),
+        number_of_flag(e.in_out),
+        number_of_flag(e.other_in_out),
+        number_of_there(contour),
+        number_of_link(contour),
+    ]
+}
+
+fn put_point(points: &mut [[f64; 2]], at: usize, p: [f64; 2])
+    ensures { λ _. ⌜ now (points .exit) ≡ set (now (points .entry)) at p ⌝ }
+{
+    if at < points.len() {
+        points[at] = p;
+    }
+}
+
+fn put_marks(marks: &mut [[u32; 12]], at: usize, m: [u32; 12])
+    ensures { λ _. ⌜ now (marks .exit) ≡ set (now (marks .entry)) at m ⌝ }
+{
+    if at < marks.len() {
+        marks[at] = m;
+    }
+}
+
+pub fn store_event(points: &mut [[f64; 2]], marks: &mut [[u32; 12]], i: u32, e: Event)
+    ensures { λ _. ⌜ pool (now (points .exit)) (now (marks .exit)) ≡ store (pool (now (points .entry)) (now (marks .entry))) i (shown e) ⌝ }
+{
+    let at = i as usize;
+    put_point(points, at, point_of(e));
+    put_marks(marks, at, marks_of(e));
+}

@@ -1,0 +1,13 @@
+-- What the orders see of a record at binary64: as the code's struct holds it, and as it is read from a pool.
+use Prim.Native.Nat.{ℕ}
+use Rattle.numbers.specs.declared.Coordinate.{Coordinate}
+use Rattle.events.specs.Event.{Key, key}
+use Rattle.events.specs.Pool.{Pool, rowAt}
+use Rattle.order.specs.declared.Key as D
+
+abbrev pub shownKey : D.Key → Key Coordinate
+shownKey k = record { point = k .point; left = k .left; subject = k .subject; ring = k .ring; mate = k .mate }
+
+-- the record with this number and its partner's point
+unfoldable pub keyAt : Pool → ℕ → Key Coordinate
+keyAt p i = key (rowAt p i) (rowAt p (rowAt p i .partner) .point)

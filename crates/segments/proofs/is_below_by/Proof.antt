@@ -1,0 +1,29 @@
+-- The case that was matched picks the answer.
+use borrow.Author.Needs.{needs}
+use Rattle.events.specs.Binary64.{crossOf}
+use Rattle.segments.specs.Segments.{byCrossing}
+use Rattle.segments.proofs.is_below_by.Statement.{statement}
+use Rattle.segments.proofs.is_below_by.Tie as tie
+
+returns : tie.Need-returns
+unfolding byCrossing crossOf
+returns c = rw (c .before .before .before .found .given .1, ← c .before .same-point .ensures, c .if1 .taken)
+
+returns-2 : tie.Need-returns-2
+unfolding byCrossing crossOf
+returns-2 c = rw (c .enum-told .given .1)
+
+returns-3 : tie.Need-returns-3
+unfolding byCrossing crossOf
+returns-3 c = rw (c .before .before .before .found .given .1, ← c .before .same-point .ensures, c .if1 .left)
+
+returns-4 : tie.Need-returns-4
+unfolding byCrossing crossOf
+returns-4 c = rw (c .before .enum-told2 .given .1, c .is-alongside .ensures)
+
+returns-5 : tie.Need-returns-5
+unfolding byCrossing crossOf
+returns-5 c = rw (c .enum-told3 .given .1)
+
+pub is-below-by-spec : {M : Type 1} → statement M
+is-below-by-spec = tie.close (tie.spec (λ c. search needs) (λ c. search needs) (λ c κs. tt) returns (λ c. search needs) (λ c κs. tt) (λ c. search needs) returns-2 returns-3 returns-4 returns-5)

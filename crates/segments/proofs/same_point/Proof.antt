@@ -1,0 +1,16 @@
+-- Each return rewrites by the test that led to it.
+use Rattle.events.specs.Coordinates.{same}
+use Rattle.events.specs.Binary64.{binary64}
+use Rattle.segments.proofs.same_point.Statement.{statement}
+use Rattle.segments.proofs.same_point.Tie as tie
+
+returns : tie.Need-returns
+unfolding same binary64
+returns c = rw (c .before .before .if1 .taken)
+
+returns-2 : tie.Need-returns-2
+unfolding same binary64
+returns-2 c = rw (c .if1 .left)
+
+pub same-point-spec : {M : Type 1} → statement M
+same-point-spec = tie.close (tie.spec returns returns-2)

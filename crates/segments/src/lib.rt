@@ -1,0 +1,159 @@
+// Segment order (`compare_segments.rs`): which of two segments of the status lies below.
+ghost use mathlib.Core.Path.{_≡_};
+ghost use mathlib.Core.Bool.{Bool};
+ghost use Rattle.events.specs.Binary64.{binary64, plain, crossOf};
+ghost use Rattle.events.specs.Coordinates.{same};
+ghost use Rattle.events.specs.Pool.{pool};
+ghost use Rattle.order.specs.Keys.{shownKey};
+ghost use Rattle.segments.specs.Segments as Segments;
+ghost use Rattle.segments.specs.Segments.{isPositive, isZero, lessIf, lessIfInversed, alongside, byCrossing, oldBelow};
+ghost use Rattle.segments.specs.OnPool as OnPool;
+use crossing::LineIntersection;
+use crossing::intersection;
+use numbers::Coordinate;
+use order::Key;
+use order::before;
+use order::key_at;
+use orientation::Sign;
+use orientation::signed_area;
+
+pub enum Ordering {
+    Less,
+    Equal,
+    Greater,
+}
+
+fn less_if(condition: bool) -> Ordering
+    ensures { λ r. ⌜ r ≡ lessIf condition ⌝ }
+{
+    if condition {
+        Ordering::Less
+    } else {
+        Ordering::Greater
+    }
+}
+
+fn less_if_inversed(condition: bool) -> Ordering
+    ensures { λ r. ⌜ r ≡ lessIfInversed condition ⌝ }
+{
+    if condition {
+        Ordering::Greater
+    } else {
+        Ordering::Less
+    }
+}
+
+fn is_positive(sign: Sign) -> bool
+    ensures { λ r. ⌜ r ≡ isPositive sign ⌝ }
+{
+    match sign {
+        Sign::Positive => true,
+        Sign::Zero => false,
+        Sign::Negative => false,
+    }
+}
+
+fn is_zero(sign: Sign) -> bool
+    ensures { λ r. ⌜ r ≡ isZero sign ⌝ }
+{
+    match sign {
+        Sign::Positive => false,
+        Sign::Zero => true,
+        Sign::Negative => false,
+    }
+}
+
+fn same_point(p: Coordinate, q: Coordinate) -> bool
+    ensures { λ r. ⌜ r ≡ same binary64 p q ⌝ }
+{
+    if p.x == q.x {
+        return p.y == q.y;
+    }
+    false
+}
+
+// Of two segments on one line: subject below clip; in one layer by ring from a shared end, else the older below.
+fn is_alongside(old: Key, new: Key) -> bool
+    ensures { λ r. ⌜ r ≡ alongside binary64 (shownKey old) (shownKey new) ⌝ }
+{
+    if old.subject == new.subject {
+        if same_point(old.point, new.point) {
+            return old.ring < new.ring;
+        }
+        return true;
+    }
+    old.subject
+}
+
+// By the signs the segments cross: a crossing at the newer one's left end leaves it to its right end.
+fn is_below_by(found: LineIntersection, old: Key, new: Key, left: bool, right: bool) -> bool
+    ensures { λ r. ⌜ r ≡ byCrossing binary64 (crossOf found) (shownKey old) (shownKey new) left right ⌝ }
+{
+    match found {
+        LineIntersection::None => left,
+        LineIntersection::Point(p) => {
+            if same_point(p, new.point) {
+                return right;
+            }
+            left
+        }
+        LineIntersection::Overlap(_, _) => is_alongside(old, new),
+        LineIntersection::Lost => left,
+    }
+}
+
+// The ends are not all on the older one's line: where they lie decides, or the crossing does.
+fn is_below_apart(old: Key, new: Key, sa_l: Sign, sa_r: Sign) -> bool
+    ensures { λ r. ⌜ r ≡ Segments.apart binary64 plain (shownKey old) (shownKey new) «sa_l» «sa_r» ⌝ }
+{
+    let left = is_positive(sa_l);
+    let right = is_positive(sa_r);
+    if same_point(old.point, new.point) {
+        return right;
+    }
+    if old.point.x == new.point.x {
+        return old.point.y < new.point.y;
+    }
+    if left == right {
+        return left;
+    }
+    if is_zero(sa_l) {
+        return right;
+    }
+    let found = intersection(old.point, old.mate, new.point, new.mate);
+    is_below_by(found, old, new, left, right)
+}
+
+// Whether the older segment lies below the newer one.
+fn is_below(old: Key, new: Key) -> bool
+    ensures { λ r. ⌜ r ≡ oldBelow binary64 plain (shownKey old) (shownKey new) ⌝ }
+{
+    let sa_l = signed_area(old.point, old.mate, new.point);
+    let sa_r = signed_area(old.point, old.mate, new.mate);
+    if is_zero(sa_l) {
+        if is_zero(sa_r) {
+            return is_alongside(old, new);
+        }
+    }
+    is_below_apart(old, new, sa_l, sa_r)
+}
+
+// Of two left records that are not one: the one that comes first in event order is the older.
+pub fn compare_segments(a: Key, b: Key) -> Ordering
+    ensures { λ r. ⌜ r ≡ Segments.compareSegments binary64 plain (shownKey a) (shownKey b) ⌝ }
+{
+    if before(a, b) {
+        return less_if(is_below(a, b));
+    }
+    less_if_inversed(is_below(b, a))
+}
+
+// The same of two records of a pool; a record is equal to itself.
+pub fn compare_segments_at(points: &[[f64; 2]], marks: &[[u32; 12]], a: u32, b: u32) -> Ordering
+    ensures { λ r. ⌜ r ≡ OnPool.compareAt (pool (now (points .entry)) (now (marks .entry))) a b ⌝ }
+{
+    if a == b {
+        return Ordering::Equal;
+    }
+    compare_segments(key_at(points, marks, a), key_at(points, marks, b))
+}
