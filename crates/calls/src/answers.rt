@@ -24,6 +24,13 @@ fn decimal(out: &mut [u8], at: usize, n: u64) -> usize {
     after(at, digits, out.len())
 }
 
+pub fn flag(out: &mut [u8], at: usize, b: bool) -> usize {
+    if b {
+        return word(out, at, b"1");
+    }
+    word(out, at, b"0")
+}
+
 pub fn refused(out: &mut [u8], from: usize, refusal: Refusal) -> usize {
     let at = word(out, from, b"refused ");
     let at = decimal(out, at, refusal.number);

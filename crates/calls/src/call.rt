@@ -1,7 +1,10 @@
 // The first word of a line says which call it is.
 use crate::answers;
+use crate::before;
 use crate::cross;
+use crate::edge_class;
 use crate::orient;
+use crate::segcmp;
 use crate::words::MISSING;
 use crate::words::passed;
 
@@ -13,6 +16,23 @@ pub fn answer(line: &[u8], out: &mut [u8], at: usize) -> usize {
     let cross = passed(line, 0, b"cross");
     if cross != MISSING {
         return cross::answer(line, cross, out, at);
+    }
+    records(line, out, at)
+}
+
+// The calls on records.
+fn records(line: &[u8], out: &mut [u8], at: usize) -> usize {
+    let before = passed(line, 0, b"before");
+    if before != MISSING {
+        return before::answer(line, before, out, at);
+    }
+    let segcmp = passed(line, 0, b"segcmp");
+    if segcmp != MISSING {
+        return segcmp::answer(line, segcmp, out, at);
+    }
+    let class = passed(line, 0, b"class");
+    if class != MISSING {
+        return edge_class::answer(line, class, out, at);
     }
     answers::malformed(out, at)
 }

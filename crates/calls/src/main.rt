@@ -1,9 +1,14 @@
 // Answers calls, one a line from standard input to its end, each by one line on standard output.
 mod answers;
+mod before;
 mod call;
 mod cross;
+mod edge_class;
+mod kinds;
 mod lines;
 mod orient;
+mod pairs;
+mod segcmp;
 mod words;
 
 use lines::Gathered;

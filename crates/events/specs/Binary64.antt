@@ -2,6 +2,7 @@
 use mathlib.Core.Bool.{Bool, not, _&&_}
 use lib.Ieee.{lt, eq}
 use Rattle.numbers.specs.Binary64.{unfit}
+use Rattle.numbers.specs.Next.{nextUp}
 use Rattle.numbers.specs.declared.Coordinate.{Coordinate}
 use Rattle.orientation.specs.Orientation.{signedArea}
 use Rattle.crossing.specs.declared.LineIntersection.{LineIntersection}
@@ -18,6 +19,7 @@ binary64 =
       sameX = λ p q. eq (p .x) (q .x);
       sameY = λ p q. eq (p .y) (q .y);
       turn = signedArea;
+      nextX = λ p. record { x = nextUp (p .x); y = p .y };
     }
 
 unfoldable pub crossOf : LineIntersection → Cross Coordinate

@@ -14,6 +14,8 @@ pub record Coordinates (P : Type 0) : Type 0 where
   pub sameY : P → P → Bool
   -- the sign of the exact orientation: positive where the third point lies left of the line from the first to the second
   pub turn : P → P → P → Sign
+  -- the point one step further in x: IEEE 754's nextUp at binary64
+  pub nextX : P → P
 
 -- one point by value
 unfoldable pub same : {P : Type 0} → Coordinates P → P → P → Bool

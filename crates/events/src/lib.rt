@@ -1,4 +1,5 @@
 // The event record (`sweep_event.rs`).
+pub mod points;
 pub mod pool;
 
 use numbers::Coordinate;

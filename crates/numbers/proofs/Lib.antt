@@ -3,3 +3,10 @@ pub mod Ends
 pub mod First
 pub mod Units
 pub mod Place
+pub mod Patterns
+pub mod Next
+pub mod NextSame
+pub mod Rounding
+pub mod Between
+pub mod Subtraction
+pub mod Multiplication

@@ -1,3 +1,4 @@
--- What a number is: binary64 as a machine computes with it, and the whole number that it stands for.
+-- What a number is: binary64 as a machine computes with it, the whole number that it stands for, and the next one up.
 pub mod Binary64
 pub mod Exact
+pub mod Next

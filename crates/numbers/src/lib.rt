@@ -1,6 +1,10 @@
 // Binary64 numbers and the plain structs of them (`helper.rs`).
 ghost use mathlib.Core.Path.{_≡_};
 ghost use Rattle.numbers.specs.Binary64.{notFinite, firstNotFinite, unfit, minimum, maximum};
+ghost use Rattle.numbers.specs.Next.{nextPattern, nextUp};
+
+// The pattern of minus zero.
+const MINUS_ZERO: u64 = 0x8000_0000_0000_0000;
 
 pub struct Coordinate {
     pub x: f64,
@@ -62,4 +66,26 @@ pub fn max(a: f64, b: f64) -> f64
         return b;
     }
     if a < b { b } else { a }
+}
+
+fn next_pattern(bits: u64) -> u64
+    ensures { λ r. ⌜ r ≡ nextPattern bits ⌝ }
+{
+    if bits < MINUS_ZERO {
+        return bits + 1;
+    }
+    if bits == MINUS_ZERO {
+        return 1;
+    }
+    bits - 1
+}
+
+// IEEE 754's nextUp: the least number that compares greater.
+pub fn next_up(x: f64) -> f64
+    ensures { λ r. ⌜ r ≡ nextUp x ⌝ }
+{
+    if x < f64::from_bits(0x7ff0_0000_0000_0000) {
+        return f64::from_bits(next_pattern(f64::to_bits(x)));
+    }
+    x
 }

@@ -30,6 +30,7 @@ grid =
       sameX = λ p q. eqb (p .x) (q .x);
       sameY = λ p q. eqb (p .y) (q .y);
       turn = λ a b c. signFrom (plus a b c) (minus a b c);
+      nextX = λ p. record { x = p .x + 1; y = p .y };
     }
 
 -- ---- points

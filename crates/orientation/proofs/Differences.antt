@@ -8,7 +8,7 @@ use native.Mathlib.Omega.{arith}
 use borrow.Author.Tests.{ltb-true, ltb-false}
 use lib.Dec.{ltb}
 use lib.IntN.{ℤ, pos, negsuc, negℤ, subℕ, _+ℤ_, _-ℤ_, _*ℤ_}
-use lib.Ieee.{Float}
+use lib.Ieee.{Float, unlike}
 use Rattle.numbers.specs.Exact.{size, negative, whole}
 
 abbrev pub Is : ℤ → ℕ → ℕ → Type 0
@@ -99,6 +99,14 @@ pub signed : (s : Bool) (m : ℕ) → Diff (cond s (negℤ (pos m)) (pos m)) (co
 signed true zero = record { is = refl }
 signed true (suc m) = record { is = add-zero (suc m) }
 signed false m = natural m
+
+-- a product by the signs and sizes of its factors
+pub signed-times : (s t : Bool) (m n : ℕ) {z w : ℤ} → Diff z (cond s 0 m) (cond s m 0) → Diff w (cond t 0 n) (cond t n 0)
+    → Diff (z *ℤ w) (cond (unlike s t) 0 (m * n)) (cond (unlike s t) (m * n) 0)
+signed-times true true m n h k = moved _ _ (omega arith) (times h k)
+signed-times true false m n h k = moved _ _ (omega arith) (times h k)
+signed-times false true m n h k = moved _ _ (omega arith) (times h k)
+signed-times false false m n h k = moved _ _ (omega arith) (times h k)
 
 pub whole-is : (x : Float) → Diff (whole x) (cond (negative x) 0 (size x)) (cond (negative x) (size x) 0)
 whole-is x = signed (negative x) (size x)

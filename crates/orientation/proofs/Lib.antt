@@ -1,4 +1,5 @@
--- Laws. Differences and Signs are about whole numbers, and the crates above cite them; the others are about bits and the long sum.
+-- Laws. Differences and Signs are about whole numbers, and the crates above cite them; Margins, Factors and Certain are about the quick sign, the others
+-- about bits and the long sum.
 pub mod Differences
 pub mod Signs
 pub mod Fields
@@ -7,3 +8,6 @@ pub mod Products
 pub mod Terms
 pub mod Areas
 pub mod Orders
+pub mod Margins
+pub mod Factors
+pub mod Certain

@@ -5,27 +5,19 @@ use mathlib.Core.List.{List}
 use Prim.Native.Nat.{ℕ, _+_, _*_, _^_, _≤_}
 use native.Mathlib.Nat.{mul-assoc, mul-left-comm}
 use native.Mathlib.Omega.{arith}
-use lib.IntN.{ℤ, pos, negℤ, _*ℤ_}
+use lib.IntN.{_*ℤ_}
 use lib.Pow.{pow-add}
 use lib.Ieee.{Float, unlike}
 use Rattle.numbers.specs.Exact.{size, negative, whole}
 use Rattle.orientation.specs.Parts.{PartOf}
 use Rattle.orientation.specs.Words.{value, Long, Added, cap, total}
-use Rattle.orientation.proofs.Differences.{Diff, moved, same, plus, minus, times, natural, signed}
+use Rattle.orientation.proofs.Differences.{Diff, moved, same, plus, minus, natural, signed-times, whole-is}
 use Rattle.orientation.proofs.Products.{product-cap}
 
 -- the number that two sums stand for is their difference
 pub total-is : (p n : List ℕ) → Diff (total p n) (value p) (value n)
 unfolding total
 total-is p n = moved (value p) (value n) (omega arith) (minus (natural (value p)) (natural (value n)))
-
--- a product by the signs and sizes of its factors
-signed-product : (s t : Bool) (m n : ℕ)
-    → Diff (cond s (negℤ (pos m)) (pos m) *ℤ cond t (negℤ (pos n)) (pos n)) (cond (unlike s t) 0 (m * n)) (cond (unlike s t) (m * n) 0)
-signed-product true true m n = moved _ _ (omega arith) (times (signed true m) (signed true n))
-signed-product true false m n = moved _ _ (omega arith) (times (signed true m) (signed false n))
-signed-product false true m n = moved _ _ (omega arith) (times (signed false m) (signed true n))
-signed-product false false m n = moved _ _ (omega arith) (times (signed false m) (signed false n))
 
 four : (a b c d : ℕ) → a * b * (c * d) ≡ a * c * (b * d)
 four a b c d = rw (mul-assoc a b, mul-left-comm b c d, ← mul-assoc a c)
@@ -40,7 +32,7 @@ module _ {x y : Float} {s t : Bool} {dx kx dy ky : ℕ} (px : PartOf x s dx kx) 
   product-of = rw (pow-add, four dx dy, px .is, py .is)
 
   product-is : {apart : Bool} → unlike s t ≡ apart → Diff (whole x *ℤ whole y) (cond apart 0 (dx * dy * 2 ^ (kx + ky))) (cond apart (dx * dy * 2 ^ (kx + ky)) 0)
-  product-is e = rw (← e, px .sign, py .sign, product-of) (signed-product (negative x) (negative y) (size x) (size y))
+  product-is e = rw (← e, px .sign, py .sign, product-of) (signed-times (negative x) (negative y) (size x) (size y) (whole-is x) (whole-is y))
 
   pub added : {apart : Bool} {p n p' n' : List ℕ} → unlike s t ≡ apart → Long p' → Long n' → value p' ≡ value p + cond apart 0 (dx * dy * 2 ^ (kx + ky))
       → value n' ≡ value n + cond apart (dx * dy * 2 ^ (kx + ky)) 0 → Added 1 (whole x *ℤ whole y) p n p' n'

@@ -1,14 +1,16 @@
 // Orientation: the exact sign of a turn (`signed_area.rs`).
 mod parts;
+mod quick;
 mod sum;
 
 use numbers::Coordinate;
 use numbers::first_not_finite;
+use quick::certainly_above;
+use quick::exactly_zero;
+use quick::same_point;
 use refusals::COORDINATE;
 use refusals::Refusal;
-use sum::add_cross;
-use sum::compare;
-use sum::nothing;
+use sum::exact_sign;
 ghost use mathlib.Core.Path.{_≡_};
 ghost use Rattle.orientation.specs.Orientation.{signedArea, orientationOf};
 
@@ -18,16 +20,31 @@ pub enum Sign {
     Positive,
 }
 
-// The cross products of p0 and p1, p1 and p2, p2 and p0: the same sum, with no difference to be taken first.
+// By plain floats where they are certain, else by the exact sum.
 pub fn signed_area(p0: Coordinate, p1: Coordinate, p2: Coordinate) -> Sign
     ensures { λ r. ⌜ r ≡ signedArea p0 p1 p2 ⌝ }
 {
-    let mut pos = nothing();
-    let mut neg = nothing();
-    add_cross(&mut pos, &mut neg, p0, p1);
-    add_cross(&mut pos, &mut neg, p1, p2);
-    add_cross(&mut pos, &mut neg, p2, p0);
-    compare(&pos, &neg)
+    let acx = p0.x - p2.x;
+    let bcy = p1.y - p2.y;
+    let acy = p0.y - p2.y;
+    let bcx = p1.x - p2.x;
+    let left = acx * bcy;
+    let right = acy * bcx;
+    if certainly_above(left, right) {
+        return Sign::Positive;
+    }
+    if certainly_above(right, left) {
+        return Sign::Negative;
+    }
+    if exactly_zero(acx, bcy) {
+        if exactly_zero(acy, bcx) {
+            return Sign::Zero;
+        }
+    }
+    if same_point(p0, p1) {
+        return Sign::Zero;
+    }
+    exact_sign(p0, p1, p2)
 }
 
 pub enum Oriented {

@@ -11,3 +11,7 @@ pub const SIZE: u64 = 1;
 pub const COORDINATE: u64 = 2;
 // A number is outside the pool, or a record does not fit its partner or the edge below.
 pub const LINK: u64 = 4;
+// A division finds fewer than two free places.
+pub const FULL: u64 = 6;
+// A cut does not divide its segment, or the record to be divided is a right end.
+pub const CUT: u64 = 7;

@@ -2,7 +2,6 @@
 ghost use mathlib.Core.Path.{_≡_};
 ghost use mathlib.Core.Bool.{Bool};
 ghost use Rattle.events.specs.Binary64.{binary64, plain, crossOf};
-ghost use Rattle.events.specs.Coordinates.{same};
 ghost use Rattle.events.specs.Pool.{pool};
 ghost use Rattle.order.specs.Keys.{shownKey};
 ghost use Rattle.segments.specs.Segments as Segments;
@@ -10,7 +9,7 @@ ghost use Rattle.segments.specs.Segments.{isPositive, isZero, lessIf, le
 ghost use Rattle.segments.specs.OnPool as OnPool;
 use crossing::LineIntersection;
 use crossing::intersection;
-use numbers::Coordinate;
+use events::points::same_point;
 use order::Key;
 use order::before;
 use order::key_at;
@@ -61,15 +60,6 @@ fn is_zero(sign: Sign) -> bool
         Sign::Zero => true,
         Sign::Negative => false,
     }
-}
-
-fn same_point(p: Coordinate, q: Coordinate) -> bool
-    ensures { λ r. ⌜ r ≡ same binary64 p q ⌝ }
-{
-    if p.x == q.x {
-        return p.y == q.y;
-    }
-    false
 }
 
 // Of two segments on one line: subject below clip; in one layer by ring from a shared end, else the older below.

@@ -7,6 +7,7 @@ use Rattle.crossing.specs.Boxes.{boxFrom, sharedBox, clamp, constrainedTo, orLo
 use Rattle.crossing.specs.Lines.{minus, crossingAt, sharedFrom, along, intersectionImpl}
 use Rattle.crossing.specs.Crossing.{inBox, intersectionOf}
 use Rattle.crossing.specs.Answer.{numberOf, valuesOf}
+use Rattle.division.proofs.Worked.{p10, p11}
 use Rattle.table.specs.Table.{Table}
 
 pub table : Table
@@ -22,4 +23,6 @@ table =
       P7 = record { number-is = refl; values-are = refl };
       P8 = record { number-is = refl; values-are = refl };
       P9 = refl;
+      P10 = p10;
+      P11 = p11;
     }

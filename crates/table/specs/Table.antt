@@ -1,4 +1,4 @@
--- 01, 'Checked by hand (P: to be proved)': P1 to P9. Each row is about the definition that the public call is proved equal to.
+-- 01, 'Checked by hand (P: to be proved)': P1 to P11. Each row is about the definition that the public call is proved equal to.
 use mathlib.Core.Path.{_≡_}
 use mathlib.Core.Bool.{true, false}
 use mathlib.Core.List.{List, [], _∷_}
@@ -11,6 +11,7 @@ use Rattle.orientation.specs.Orientation.{signedArea}
 use Rattle.crossing.specs.declared.LineIntersection.{LineIntersection}
 use Rattle.crossing.specs.Crossing.{intersectionOf}
 use Rattle.crossing.specs.Answer.{numberOf, valuesOf}
+use Rattle.division.specs.Worked as Division
 
 -- ---- the numbers of the table: `fin s m e` is m * 2^e, negative where s is true
 
@@ -59,3 +60,7 @@ pub record Table : Type 0 where
   pub P8 : Is (intersectionOf (at (fin true 1 (pos 1023)) zero) (at (fin false 1 (pos 1023)) zero) (at zero (fin true 1 (pos 0))) (at zero one)) 3 []
   -- orientation of (1,1), (2,2), (2^-60,0): negative
   pub P9 : signedArea (at one one) (at two two) (at (small 60) zero) ≡ Negative
+  -- (0,1)-(4,0) cut at (0,0.5): the cut becomes (2^-1074,0.5)
+  pub P10 : Division.P10
+  -- (0,0)-(2,1) cut at (2,1.5): flags change places
+  pub P11 : Division.P11

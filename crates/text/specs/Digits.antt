@@ -41,3 +41,7 @@ value base v (b ∷ s) = cond (ltb (digitOf b) base) (value base (v * base + dig
 -- the 64-bit word in hex at a place
 abbrev pub hexAt : List ℕ → ℕ → Read
 hexAt s at = value 16 0 (bytes s at 16)
+
+-- the number in decimal at a place, by its first count digits; nothing beyond the most of which every number is a 64-bit word
+unfoldable pub decimalAt : List ℕ → ℕ → ℕ → Read
+decimalAt s at count = cond (ltb 19 count) Nothing (value 10 0 (bytes s at count))

@@ -3,13 +3,16 @@ ghost use mathlib.Core.Path.{_≡_};
 ghost use Prim.Native.Nat.{_<_, _≤_, _^_};
 ghost use lib.ListN.{length};
 ghost use lib.Seq.{sets};
-ghost use Rattle.text.specs.Digits.{digit, digits, hex, places, decimal, digitOf, value, hexAt};
+ghost use Rattle.text.specs.Digits.{digit, digits, hex, places, decimal, digitOf, value, hexAt, decimalAt};
 ghost use Rattle.text.specs.Words.{bytes};
 use crate::words::byte_at;
 use crate::words::put_byte;
 
 // The hex digits of a 64-bit word.
 pub const HEX_DIGITS: usize = 16;
+
+// The most decimal digits of which every number is a 64-bit word.
+pub const DECIMAL_DIGITS: usize = 19;
 
 // What stands at a place: a number, or bytes that are no digits.
 pub enum Read {
@@ -116,4 +119,14 @@ pub fn read_hex(s: &[u8], at: usize) -> Read
     ensures { λ r. ⌜ r ≡ hexAt (now (s .entry)) at ⌝ }
 {
     read_digits(s, at, 16, HEX_DIGITS)
+}
+
+// The number whose `count` decimal digits stand at `at`; nothing where so many may be too many.
+pub fn read_decimal(s: &[u8], at: usize, count: usize) -> Read
+    ensures { λ r. ⌜ r ≡ decimalAt (now (s .entry)) at count ⌝ }
+{
+    if count > DECIMAL_DIGITS {
+        return Read::Nothing;
+    }
+    read_digits(s, at, 10, count)
 }

@@ -1,8 +1,8 @@
 -- Each return rewrites by the test that led to it.
 use Rattle.events.specs.Coordinates.{same}
 use Rattle.events.specs.Binary64.{binary64}
-use Rattle.segments.proofs.same_point.Statement.{statement}
-use Rattle.segments.proofs.same_point.Tie as tie
+use Rattle.events.proofs.points.same_point.Statement.{statement}
+use Rattle.events.proofs.points.same_point.Tie as tie
 
 returns : tie.Need-returns
 unfolding same binary64

@@ -1,0 +1,41 @@
+// The records of a call, in a small pool made for it: each edge's two ends.
+use events::EdgeType;
+use events::Event;
+use events::Link;
+use events::ResultTransition;
+use events::pool::store_event;
+use numbers::Coordinate;
+
+// The end of an edge of which nothing is computed yet.
+pub fn end(point: Coordinate, left: bool, subject: bool, ring: u32, partner: u32) -> Event {
+    Event {
+        point,
+        left,
+        subject,
+        ring,
+        partner,
+        below: Link::None,
+        edge_type: EdgeType::Normal,
+        transition: ResultTransition::None,
+        in_out: false,
+        other_in_out: false,
+        contour: Link::None,
+    }
+}
+
+// An edge of the call, from one end to the other.
+pub struct Edge {
+    pub from: Coordinate,
+    pub to: Coordinate,
+    pub left: bool,
+    pub subject: bool,
+    pub ring: u32,
+}
+
+// Stores both ends, as records i and j.
+pub fn store(points: &mut [[f64; 2]], marks: &mut [[u32; 12]], i: u32, j: u32, e: Edge) {
+    let from = e.from;
+    let to = e.to;
+    store_event(points, marks, i, end(from, e.left, e.subject, e.ring, j));
+    store_event(points, marks, j, end(to, !e.left, e.subject, e.ring, i));
+}

@@ -1,0 +1,91 @@
+-- Demand 3 for a lent pool, at binary64: nothing is assumed but 01's words. Directions are told by the exact orientation, points are one by value.
+use mathlib.Core.Path.{_≡_, ap₂}
+use mathlib.Core.Bool.{true}
+use mathlib.Core.Option.{some}
+use mathlib.Core.List.{List, List·Memᴰ}
+use Prim.Native.Nat.{ℕ, suc, min, _<_, _≤_}
+use lib.ListN.{length, getD}
+use Rattle.refusals.specs.declared.Refusal.{Refusal}
+use Rattle.numbers.specs.declared.Coordinate.{Coordinate}
+use Rattle.events.specs.Coordinates.{same}
+use Rattle.events.specs.Binary64.{binary64}
+use Rattle.events.specs.Pool.{Pool, size, rowAt, stored}
+use Rattle.events.proofs.Stored.{pool-stored}
+use Rattle.order.proofs.AtBinary64.{laws, fine}
+use Rattle.contours.specs.Result.{results, ordered}
+use Rattle.contours.specs.Outline.{Outline, closes, openCount, cornerCount, holeCount}
+use Rattle.contours.specs.Accept.{Room}
+use Rattle.contours.specs.Connect.{Finished, refused, stopped, connected, given}
+use Rattle.contours.specs.OnPool.{connectPool}
+use Rattle.contours.specs.Renaming.{RenumberedPool, Relisted, NoneOneWay, EvenEnds, timesWalked, SameFinished, Alike}
+use Rattle.contours.proofs.Cause.{Cause}
+use Rattle.contours.proofs.Given.{ResultEdgeAt}
+use Rattle.contours.proofs.Given as G
+use Rattle.contours.proofs.Demand as D
+
+-- ---- order
+
+module _ (ρ : ℕ → ℕ) (p p′ : Pool) (rn : RenumberedPool ρ p p′) (list list′ : List ℕ) (again : Relisted ρ list list′) (room : Room) where
+  one-size : size p′ ≡ size p
+  unfolding size
+  one-size = ap₂ min (rn .points) (rn .marks)
+
+  alike : NoneOneWay binary64 (rowAt p) list → Alike stored ρ (size p) (connectPool p list room) (connectPool p′ list′ room)
+  unfolding connectPool stored laws
+  alike free =
+      rw (rn .points, rn .marks)
+      (D.order binary64 stored pool-stored laws fine ρ p p′ (rn .records) one-size list list′ again (length (p .points)) (length (p .marks)) room free)
+
+  -- Order: numbered and listed in any other way, the records give the same contours, corners, parents, depths and holes, bit for bit.
+  pub order : NoneOneWay binary64 (rowAt p) list → (f : Finished Coordinate Pool) → connectPool p list room ≡ connected f
+      → (g : Finished Coordinate Pool) × (connectPool p′ list′ room ≡ connected g) × SameFinished stored ρ (size p) f g
+  order free f e = D.alike-connected stored ρ (size p) (alike free) f e
+
+  -- stopped by 9, it is stopped by 9 at the renamed record, with the same contours before it
+  pub order-stopped : NoneOneWay binary64 (rowAt p) list → (x : Refusal) (f : Finished Coordinate Pool) → connectPool p list room ≡ stopped x f
+      → (g : Finished Coordinate Pool) × (connectPool p′ list′ room ≡ stopped (record { number = x .number; place = ρ (x .place) }) g) × SameFinished stored ρ (size p) f g
+  order-stopped free x f e = D.alike-stopped stored ρ (size p) (alike free) x f e
+
+  -- refused by 1, 2, 4, 8 or 5, it is refused by the same number, whatever the directions
+  pub refusals : (x : Refusal) → connectPool p list room ≡ refused x → (y : Refusal) × (connectPool p′ list′ room ≡ refused y) × (y .number ≡ x .number)
+  unfolding connectPool stored laws
+  refusals x e =
+      rw (rn .points, rn .marks)
+      (D.refusals binary64 stored pool-stored laws fine ρ p p′ (rn .records) one-size list list′ again (length (p .points)) (length (p .marks)) room x e)
+
+-- ---- closing and once
+
+module _ (p : Pool) (list : List ℕ) (room : Room) (f : Finished Coordinate Pool) (e : connectPool p list room ≡ connected f) where
+  -- Closing: if every point ends an even number of result edges, every contour closes, and none is counted open.
+  pub closing : EvenEnds binary64 (rowAt p) list → ((o : Outline Coordinate) → List·Memᴰ o (f .outlines) → closes (same binary64) (o .corners) ≡ true) × (openCount (f .outlines) ≡ 0)
+  unfolding connectPool stored laws
+  closing even = D.closing binary64 stored laws fine p (length (p .points)) (length (p .marks)) list room f e even
+
+  -- Once: each result edge is walked in exactly one contour, once.
+  pub once : (r : ℕ) → List·Memᴰ r (results (rowAt p) list) → timesWalked (rowAt p) (ordered (rowAt p) binary64 list) r (f .outlines) ≡ 1
+  unfolding connectPool stored laws
+  once r m = D.once binary64 stored laws fine p (length (p .points)) (length (p .marks)) list room f e r m
+
+-- ---- what is given, also where refusal 9 stopped it
+
+module _ (p : Pool) (list : List ℕ) (room : Room) (f : Finished Coordinate Pool) (e : given (connectPool p list room) ≡ some f) where
+  -- the room that refusal 5 asks for is enough
+  pub enough : (length (f .outlines) ≤ room .contours) × (cornerCount (f .outlines) ≤ room .points) × (holeCount (f .outlines) ≤ room .holes)
+  unfolding connectPool stored laws
+  enough = G.enough binary64 stored laws fine p (length (p .points)) (length (p .marks)) list room f e
+
+  module _ (o : Outline Coordinate) (m : List·Memᴰ o (f .outlines)) where
+    pub one-more : length (o .corners) ≡ suc (length (o .trail))
+    unfolding connectPool stored laws
+    one-more = G.one-more binary64 stored laws fine p (length (p .points)) (length (p .marks)) list room f e o m
+
+    -- each two neighbouring corners are the two ends of a result edge, by value
+    pub neighbours : (k : ℕ) → k < length (o .trail) → (d : Coordinate) → ResultEdgeAt binary64 (rowAt p) list o k d (getD (ordered (rowAt p) binary64 list) (getD (o .trail) k 0) 0)
+    unfolding connectPool stored laws
+    neighbours k l d = G.neighbours binary64 stored laws fine p (length (p .points)) (length (p .marks)) list room f e o m k l d
+
+-- ---- refused exactly as the table says
+
+pub cause : (p : Pool) (list : List ℕ) (room : Room) (x : Refusal) → connectPool p list room ≡ refused x → Cause binary64 (rowAt p) (size p) (length (p .points)) (length (p .marks)) list room x
+unfolding connectPool stored
+cause p list room x e = D.refused-cause binary64 stored p (length (p .points)) (length (p .marks)) list room x e

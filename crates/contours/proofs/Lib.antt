@@ -1,0 +1,21 @@
+-- Laws of connection.
+pub mod Lists
+pub mod Sort
+pub mod Places
+pub mod Marks
+pub mod Round
+pub mod Turns
+pub mod Walked
+pub mod Amount
+pub mod Corners
+pub mod Accepted
+pub mod Cause
+pub mod Good
+pub mod Grouped
+pub mod Renamed
+pub mod Refusals
+pub mod Given
+pub mod Settled
+pub mod Demand
+pub mod AtBinary64
+pub mod Examples

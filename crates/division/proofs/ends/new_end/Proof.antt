@@ -1,0 +1,12 @@
+-- The struct has the definition's fields.
+use mathlib.Core.Path.{refl}
+use Rattle.division.specs.Division.{newEnd}
+use Rattle.division.proofs.ends.new_end.Statement.{statement}
+use Rattle.division.proofs.ends.new_end.Tie as tie
+
+returns : tie.Need-returns
+unfolding newEnd
+returns c = refl
+
+pub new-end-spec : {M : Type 1} → statement M
+new-end-spec = tie.close (tie.spec returns)

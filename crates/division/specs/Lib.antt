@@ -1,0 +1,5 @@
+-- Division of a segment: the definition, what it leaves of each record, the struct that the code changes, and two worked examples.
+pub mod Division
+pub mod Records
+pub mod Struct
+pub mod Worked

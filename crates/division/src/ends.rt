@@ -1,0 +1,83 @@
+// The ends of a divided segment.
+ghost use mathlib.Core.Path.{_≡_};
+ghost use mathlib.Core.Bool.{true, cond};
+ghost use Rattle.events.specs.Binary64.{binary64};
+ghost use Rattle.events.specs.Event.{shown, key};
+ghost use Rattle.order.specs.Keys.{shownKey};
+ghost use Rattle.division.specs.Struct as Struct;
+ghost use Rattle.division.specs.Division as Spec;
+ghost use Rattle.division.specs.Division.{newEnd};
+use events::EdgeType;
+use events::Event;
+use events::Link;
+use events::ResultTransition;
+use numbers::Coordinate;
+use order::Key;
+use order::before;
+
+// A new end of the edge of e.
+pub fn new_end(e: Event, point: Coordinate, left: bool, partner: u32) -> Event
+    ensures { λ r. ⌜ shown r ≡ newEnd (shown e) point left partner ⌝ }
+{
+    Event {
+        point: point,
+        left: left,
+        subject: e.subject,
+        ring: e.ring,
+        partner: partner,
+        below: Link::None,
+        edge_type: EdgeType::Normal,
+        transition: ResultTransition::None,
+        in_out: false,
+        other_in_out: false,
+        contour: Link::None,
+    }
+}
+
+// The end that is lent gets its new partner, and its flag; nothing else of it moves.
+fn set_partner(e: &mut Event, partner: u32, left: bool)
+    ensures { λ _. ⌜ now (e .exit) ≡ Struct.relinked (now (e .entry)) partner left ⌝ }
+{
+    e.partner = partner;
+    e.left = left;
+}
+
+// An end with another partner and another flag.
+pub fn relinked(e: Event, partner: u32, left: bool) -> Event
+    ensures { λ r. ⌜ r ≡ Struct.relinked e partner left ⌝ }
+{
+    let mut r = e;
+    set_partner(&mut r, partner, left);
+    r
+}
+
+// The old right end's flag.
+pub fn flag_after(left: bool, keep: bool) -> bool
+    ensures { λ r. ⌜ r ≡ cond keep left true ⌝ }
+{
+    if keep {
+        return left;
+    }
+    true
+}
+
+fn key_of(e: Event, mate: Coordinate) -> Key
+    ensures { λ r. ⌜ shownKey r ≡ key (shown e) mate ⌝ }
+{
+    let point = e.point;
+    Key {
+        point: point,
+        left: e.left,
+        subject: e.subject,
+        ring: e.ring,
+        mate: mate,
+    }
+}
+
+// The new left end comes before the old right end f: otherwise their flags change places.
+pub fn keeps(e: Event, f: Event, c: Coordinate) -> bool
+    ensures { λ r. ⌜ r ≡ Spec.keeps binary64 (shown e) (shown f) c ⌝ }
+{
+    let left = key_of(new_end(e, c, true, e.partner), f.point);
+    before(left, key_of(f, e.point))
+}

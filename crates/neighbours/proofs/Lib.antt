@@ -1,0 +1,4 @@
+-- Laws of neighbours.
+pub mod Steps
+pub mod Overlaps
+pub mod Meetings

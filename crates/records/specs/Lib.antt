@@ -1,0 +1,2 @@
+-- 01's entries on single records of a pool.
+pub mod Records
