@@ -1,6 +1,5 @@
 // The tests of one record: refusal 2, and the five mistakes of refusal 4 in 01's order.
 ghost use mathlib.Core.Path.{_≡_};
-ghost use mathlib.Core.Bool.{not};
 ghost use mathlib.Core.List.{[], _∷_};
 ghost use Rattle.events.specs.Binary64.{binary64};
 ghost use Rattle.events.specs.Coordinates.{ahead};
@@ -11,18 +10,9 @@ ghost use Rattle.checks.specs.OnPool.{on, strikes};
 use crate::Fault;
 use crate::sizes::is_outside;
 use events::Link;
+use events::points::is_unfit_point;
 use events::pool::read_event;
 use numbers::Coordinate;
-use numbers::is_unfit;
-
-fn is_unfit_point(p: Coordinate) -> bool
-    ensures { λ r. ⌜ r ≡ not (binary64 .fit p) ⌝ }
-{
-    if is_unfit(p.x) {
-        return true;
-    }
-    is_unfit(p.y)
-}
 
 // Refusal 2: a record of the pool whose point is not fit.
 pub fn is_unfit_at(points: &[[f64; 2]], marks: &[[u32; 12]], r: u32) -> bool

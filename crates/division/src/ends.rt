@@ -2,8 +2,7 @@
 ghost use mathlib.Core.Path.{_≡_};
 ghost use mathlib.Core.Bool.{true, cond};
 ghost use Rattle.events.specs.Binary64.{binary64};
-ghost use Rattle.events.specs.Event.{shown, key};
-ghost use Rattle.order.specs.Keys.{shownKey};
+ghost use Rattle.events.specs.Event.{shown};
 ghost use Rattle.division.specs.Struct as Struct;
 ghost use Rattle.division.specs.Division as Spec;
 ghost use Rattle.division.specs.Division.{newEnd};
@@ -12,8 +11,8 @@ use events::Event;
 use events::Link;
 use events::ResultTransition;
 use numbers::Coordinate;
-use order::Key;
 use order::before;
+use order::key_of;
 
 // A new end of the edge of e.
 pub fn new_end(e: Event, point: Coordinate, left: bool, partner: u32) -> Event
@@ -59,19 +58,6 @@ pub fn flag_after(left: bool, keep: bool) -> bool
         return left;
     }
     true
-}
-
-fn key_of(e: Event, mate: Coordinate) -> Key
-    ensures { λ r. ⌜ shownKey r ≡ key (shown e) mate ⌝ }
-{
-    let point = e.point;
-    Key {
-        point: point,
-        left: e.left,
-        subject: e.subject,
-        ring: e.ring,
-        mate: mate,
-    }
 }
 
 // The new left end comes before the old right end f: otherwise their flags change places.

@@ -2,10 +2,12 @@
 ghost use mathlib.Core.Path.{_≡_};
 ghost use Rattle.orientation.specs.Orientation.{signedArea};
 ghost use Rattle.events.specs.Binary64.{binary64};
+ghost use Rattle.events.specs.Event.{shown, key};
 ghost use Rattle.events.specs.Pool.{pool, stored};
 ghost use Rattle.order.specs.Order as Order;
 ghost use Rattle.order.specs.Order.{byTurn, byLayer};
 ghost use Rattle.order.specs.Keys.{shownKey, keyAt, keyUsed};
+use events::Event;
 use events::pool::read_event;
 use events::pool::read_used;
 use numbers::Coordinate;
@@ -54,14 +56,11 @@ pub fn before(a: Key, b: Key) -> bool
     is_lower(a, b)
 }
 
-// The key of record i of a pool.
-pub fn key_at(points: &[[f64; 2]], marks: &[[u32; 12]], i: u32) -> Key
-    ensures { λ r. ⌜ shownKey r ≡ keyAt (pool (now (points .entry)) (now (marks .entry))) i ⌝ }
+// The key of a record and its partner's point.
+pub fn key_of(e: Event, mate: Coordinate) -> Key
+    ensures { λ r. ⌜ shownKey r ≡ key (shown e) mate ⌝ }
 {
-    let e = read_event(points, marks, i);
-    let partner = read_event(points, marks, e.partner);
     let point = e.point;
-    let mate = partner.point;
     Key {
         point: point,
         left: e.left,
@@ -71,21 +70,22 @@ pub fn key_at(points: &[[f64; 2]], marks: &[[u32; 12]], i: u32) -> Key
     }
 }
 
+// The key of record i of a pool.
+pub fn key_at(points: &[[f64; 2]], marks: &[[u32; 12]], i: u32) -> Key
+    ensures { λ r. ⌜ shownKey r ≡ keyAt (pool (now (points .entry)) (now (marks .entry))) i ⌝ }
+{
+    let e = read_event(points, marks, i);
+    let partner = read_event(points, marks, e.partner);
+    key_of(e, partner.point)
+}
+
 // The same where only the first places are in use.
 pub fn key_used(points: &[[f64; 2]], marks: &[[u32; 12]], used: u32, i: u32) -> Key
     ensures { λ r. ⌜ shownKey r ≡ keyUsed stored (pool (now (points .entry)) (now (marks .entry))) used i ⌝ }
 {
     let e = read_used(points, marks, used, i);
     let partner = read_used(points, marks, used, e.partner);
-    let point = e.point;
-    let mate = partner.point;
-    Key {
-        point: point,
-        left: e.left,
-        subject: e.subject,
-        ring: e.ring,
-        mate: mate,
-    }
+    key_of(e, partner.point)
 }
 
 // Whether record a of a pool comes before record b.

@@ -1,12 +1,11 @@
 -- The two records read are the definition's.
-use Rattle.events.specs.Event.{key}
 use Rattle.order.specs.Keys.{keyUsed}
 use Rattle.order.proofs.key_used.Statement.{statement}
 use Rattle.order.proofs.key_used.Tie as tie
 
 returns : tie.Need-returns
-unfolding keyUsed key
-returns c = rw (← c .before .before .before .read-used .ensures, ← c .before .before .read-used2 .ensures)
+unfolding keyUsed
+returns c = rw (← c .before .before .read-used .ensures, ← c .before .read-used2 .ensures, c .key-of .ensures)
 
 pub key-used-spec : {M : Type 1} → statement M
-key-used-spec = tie.close (tie.spec (λ c κs. tt) (λ c κs. tt) returns)
+key-used-spec = tie.close (tie.spec (λ c κs. tt) (λ c κs. tt) (λ c κs. tt) returns)
