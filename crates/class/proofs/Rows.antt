@@ -4,7 +4,8 @@ use mathlib.Core.Bool.{Bool, true, false, not, cond, xor, Bool·beq}
 use Rattle.events.specs.declared.ResultTransition.the-variants.{None as NoTransition, InOut, OutIn}
 use Rattle.class.specs.declared.Operation.{Operation}
 use Rattle.class.specs.declared.Operation.the-variants.{Intersection, Difference, Union, Xor}
-use Rattle.class.specs.Class.{hasTransition, normalInResult, sameInResult, differentInResult, holdsAbove}
+use Rattle.events.specs.Event.{hasTransition}
+use Rattle.class.specs.Class.{normalInResult, sameInResult, differentInResult, holdsAbove}
 use Rattle.class.specs.Truth.{holds, place, changes, turn}
 
 -- the table as an edge of the subject tells it, and as one of the clip: inside its own layer, inside the other

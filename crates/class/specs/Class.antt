@@ -9,7 +9,7 @@ use Rattle.events.specs.declared.ResultTransition.{ResultTransition}
 use Rattle.events.specs.declared.ResultTransition.the-variants.{None as NoTransition, InOut, OutIn}
 use Rattle.events.specs.declared.Link.{Link}
 use Rattle.events.specs.declared.Link.the-variants.{None as NoLink, To}
-use Rattle.events.specs.Event.{Event, shown}
+use Rattle.events.specs.Event.{Event, hasTransition, shown}
 use Rattle.class.specs.declared.Operation.{Operation}
 use Rattle.class.specs.declared.Operation.the-variants.{Intersection, Difference, Union, Xor}
 use Rattle.class.specs.declared.Neighbour.{Neighbour as CodeNeighbour}
@@ -57,11 +57,6 @@ otherInOutAbove false true inOut otherInOut = not inOut
 otherInOutAbove false false inOut otherInOut = inOut
 
 -- a record tells by its transition whether it is in the result
-unfoldable pub hasTransition : ResultTransition → Bool
-hasTransition NoTransition = false
-hasTransition InOut = true
-hasTransition OutIn = true
-
 abbrev pub isInResult : {P : Type 0} → Event P → Bool
 isInResult e = hasTransition (e .transition)
 

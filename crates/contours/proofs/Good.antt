@@ -13,7 +13,9 @@ use Rattle.order.specs.Order.{onSide}
 use Rattle.order.proofs.Laws.{OrderLaws, Valid, same-refl, same-ext}
 use Rattle.checks.specs.Checks.{inOrder}
 use Rattle.checks.specs.Sound.{Sound}
-use Rattle.contours.specs.Result.{keep, isIn, inResult, results, resultEdges, keyOf, earlier, ordered}
+use Rattle.order.specs.Keys.{keyOf}
+use Rattle.events.specs.Event.{hasTransition}
+use Rattle.contours.specs.Result.{keep, inResult, results, resultEdges, earlier, ordered}
 use Rattle.contours.specs.Table.{Row, place, rowOf, table, rowAt}
 use Rattle.contours.specs.Renaming.{endsAt}
 use Rattle.contours.proofs.Lists.{Pairs, pairs-perm, pairs-keep, mem-perm, mem-getD, keep-in, keep-out, keep-perm, length-perm, getD-map}
@@ -118,7 +120,7 @@ module _ {P : Type 0} (C : Coordinates P) (row : ℕ → Event P) (n : ℕ) (voi
   unfolding inResult
   mate-result r m = rw (ok .each r m .paired, ok .each r m .unlike) (go (row r .left))
     where
-      go : (b : Bool) → cond (not b) (isIn (row (mate r) .transition)) (isIn (row r .transition)) ≡ cond b (isIn (row r .transition)) (isIn (row (mate r) .transition))
+      go : (b : Bool) → cond (not b) (hasTransition (row (mate r) .transition)) (hasTransition (row r .transition)) ≡ cond b (hasTransition (row r .transition)) (hasTransition (row (mate r) .transition))
       go true = refl
       go false = refl
 

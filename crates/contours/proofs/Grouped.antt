@@ -12,7 +12,8 @@ use Rattle.events.specs.Event.{Event, Key, key}
 use Rattle.order.specs.Order.{before}
 use Rattle.checks.proofs.Unstruck.{right-last}
 use Rattle.order.proofs.Laws.{OrderLaws, Placed, Valid, trans, otherwise, left-before-right, before-ahead, same-sym, same-ext, ahead-asym, ahead-ext, ahead-trans}
-use Rattle.contours.specs.Result.{results, keyOf, earlier, ordered}
+use Rattle.order.specs.Keys.{keyOf}
+use Rattle.contours.specs.Result.{results, earlier, ordered}
 use Rattle.contours.specs.Table.{Row, table, rowAt}
 use Rattle.contours.proofs.Lists.{Pairs, all-of, all-mem, mem-getD}
 use Rattle.contours.proofs.Sort.{sort-ordered}

@@ -12,7 +12,8 @@ use Rattle.events.specs.Event.{Event, key}
 use Rattle.order.specs.Order.{before}
 use Rattle.order.proofs.Laws.{OrderLaws, Valid, trans, apart}
 use Rattle.checks.specs.Sound.{LeftIn, Sound}
-use Rattle.contours.specs.Result.{keep, inResult, results, resultEdges, keyOf, earlier, ordered}
+use Rattle.order.specs.Keys.{keyOf}
+use Rattle.contours.specs.Result.{keep, inResult, results, resultEdges, earlier, ordered}
 use Rattle.contours.specs.Table.{belowOf, rowOf, table}
 use Rattle.contours.specs.Connect.{withContour}
 use Rattle.contours.specs.Renaming.{renameLink, rename, Renumbered, Relisted, NoneOneWay}

@@ -14,7 +14,8 @@ use Rattle.events.specs.Event.{Event}
 use Rattle.events.specs.Store.{Store}
 use Rattle.events.specs.Pool.{Pool, size, rowAt}
 use Rattle.order.specs.Order.{oneWay}
-use Rattle.contours.specs.Result.{keep, results, keyOf}
+use Rattle.order.specs.Keys.{keyOf}
+use Rattle.contours.specs.Result.{keep, results}
 use Rattle.contours.specs.Outline.{Outline}
 use Rattle.contours.specs.Connect.{withContour, Finished, Outcome, refused, stopped, connected}
 

@@ -13,8 +13,9 @@ use Rattle.order.specs.Order.{byNumber, before, onSide}
 use Rattle.order.proofs.Steps.{three-ways}
 use Rattle.order.proofs.Grid.{grid}
 use Rattle.order.proofs.Laws.{OrderLaws}
+use Rattle.order.specs.Keys.{keyOf}
 use Rattle.division.specs.Division.{moves, moved, misses, newEnd, linked, keeps}
-use Rattle.division.specs.Records.{Parted, keyOf}
+use Rattle.division.specs.Records.{Parted}
 
 -- what a kind of coordinate must supply: the laws of event order at fit points, and a step in x that goes beyond every point of that x
 pub record MoveLaws {P : Type 0} (C : Coordinates P) : Type 1 where

@@ -3,7 +3,7 @@ use mathlib.Core.Path.{_≡_}
 use mathlib.Core.Logic.{_≢_}
 use mathlib.Core.Bool.{Bool, true, false, cond}
 use Prim.Native.Nat.{ℕ, _+_, _<_}
-use Rattle.events.specs.Event.{Event, Key, key}
+use Rattle.events.specs.Event.{Event}
 use Rattle.division.specs.Division.{newEnd, linked}
 
 -- The segment of record i is cut at c; keep: the flags of the second half stay as they are. Four records, and all others as before.
@@ -19,7 +19,3 @@ pub record Paired {P : Type 0} (row : ℕ → Event P) (n r : ℕ) : Type 0 wher
   pub own : r < n
   pub other : row r .partner < n
   pub back : row (row r .partner) .partner ≡ r
-
--- what the orders see of record r
-unfoldable pub keyOf : {P : Type 0} → (ℕ → Event P) → ℕ → Key P
-keyOf row r = key (row r) (row (row r .partner) .point)

@@ -1,9 +1,10 @@
 -- What an event record is, over any kind of point. Record numbers are counted from 0.
-use mathlib.Core.Bool.{Bool}
+use mathlib.Core.Bool.{Bool, true, false}
 use Prim.Native.Nat.{ℕ}
 use Rattle.numbers.specs.declared.Coordinate.{Coordinate}
 use Rattle.events.specs.declared.EdgeType.{EdgeType}
 use Rattle.events.specs.declared.ResultTransition.{ResultTransition}
+use Rattle.events.specs.declared.ResultTransition.the-variants.{None, InOut, OutIn}
 use Rattle.events.specs.declared.Link.{Link}
 use Rattle.events.specs.declared.Event as D
 
@@ -20,6 +21,12 @@ pub record Event (P : Type 0) : Type 0 where
   pub inOut : Bool
   pub otherInOut : Bool
   pub contour : Link
+
+-- a left end with this transition is in the result
+unfoldable pub hasTransition : ResultTransition → Bool
+hasTransition None = false
+hasTransition InOut = true
+hasTransition OutIn = true
 
 -- What the orders see of a record and its partner: no record number, so that no order can depend on numbering.
 pub record Key (P : Type 0) : Type 0 where

@@ -6,7 +6,7 @@ use Rattle.orientation.specs.declared.Sign.{Sign}
 use Rattle.orientation.specs.declared.Sign.the-variants.{Negative, Zero, Positive}
 use Rattle.events.specs.Coordinates.{Coordinates, same, Cross, none, lost, point, overlap, Crossing}
 use Rattle.events.specs.Event.{Key}
-use Rattle.order.specs.Order.{before}
+use Rattle.order.specs.Order.{before, isZero}
 use Rattle.segments.specs.declared.Ordering.{Ordering}
 use Rattle.segments.specs.declared.Ordering.the-variants.{Less, Greater}
 
@@ -21,11 +21,6 @@ unfoldable pub isPositive : Sign → Bool
 isPositive Positive = true
 isPositive Zero = false
 isPositive Negative = false
-
-unfoldable pub isZero : Sign → Bool
-isZero Positive = false
-isZero Zero = true
-isZero Negative = false
 
 module _ {P : Type 0} (C : Coordinates P) where
   -- on one line: of two layers the subject below; of one layer, from a shared end by ring number, else the older below

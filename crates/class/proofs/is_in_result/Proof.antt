@@ -1,6 +1,6 @@
 -- The case that was matched picks the answer.
 use borrow.Author.Needs.{needs}
-use Rattle.class.specs.Class.{hasTransition}
+use Rattle.events.specs.Event.{hasTransition}
 use Rattle.class.proofs.is_in_result.Statement.{statement}
 use Rattle.class.proofs.is_in_result.Tie as tie
 

@@ -1,10 +1,10 @@
 -- The two records read are the definition's.
-use Rattle.order.specs.Keys.{keyUsed}
+use Rattle.order.specs.Keys.{keyOf, keyUsed}
 use Rattle.order.proofs.key_used.Statement.{statement}
 use Rattle.order.proofs.key_used.Tie as tie
 
 returns : tie.Need-returns
-unfolding keyUsed
+unfolding keyOf keyUsed
 returns c = rw (← c .before .before .read-used .ensures, ← c .before .read-used2 .ensures, c .key-of .ensures)
 
 pub key-used-spec : {M : Type 1} → statement M

@@ -1,6 +1,6 @@
 -- The case that was matched picks the answer.
 use borrow.Author.Needs.{needs}
-use Rattle.segments.specs.Segments.{isZero}
+use Rattle.order.specs.Order.{isZero}
 use Rattle.segments.proofs.is_zero.Statement.{statement}
 use Rattle.segments.proofs.is_zero.Tie as tie
 
