@@ -62,6 +62,7 @@ def refused_chain(chain):
 
 
 def is_moved(left, cut):
+    """Where a move puts the first cut: one step right of the left end and below it."""
     return cut[0] == math.nextafter(left[0], math.inf) and cut[1] < left[1]
 
 

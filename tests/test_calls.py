@@ -5,7 +5,7 @@ import subprocess
 import unittest
 from fractions import Fraction
 
-CALLS = "target/bin/calls"
+CALLS = ["tests/x86", "target/bin/calls"]
 
 
 def bits(x):
@@ -14,7 +14,7 @@ def bits(x):
 
 def answers(lines, end="\n"):
     given = "\n".join(lines) + end
-    run = subprocess.run([CALLS], input=given.encode("latin-1"), capture_output=True, timeout=60)
+    run = subprocess.run(CALLS, input=given.encode("latin-1"), capture_output=True, timeout=60)
     return run.stdout.decode("ascii").split("\n")
 
 
@@ -84,7 +84,7 @@ class Malformed(unittest.TestCase):
     def test_any_bytes_are_answered_line_by_line(self):
         rng = random.Random(1)
         given = bytes(rng.choice(b"\n\n 01af\xff\0crossorient") for _ in range(300000))
-        run = subprocess.run([CALLS], input=given, capture_output=True, timeout=60)
+        run = subprocess.run(CALLS, input=given, capture_output=True, timeout=60)
         lines = given.count(b"\n") + (not given.endswith(b"\n"))
         self.assertEqual(run.stdout, b"malformed\n" * lines)
 

@@ -4,7 +4,7 @@ import struct
 import subprocess
 import unittest
 
-CALLS = "target/bin/calls"
+CALLS = ["tests/x86", "target/bin/calls"]
 
 
 def bits(x):
@@ -12,7 +12,7 @@ def bits(x):
 
 
 def answers(lines):
-    run = subprocess.run([CALLS], input="\n".join(lines + [""]).encode(), capture_output=True, timeout=60)
+    run = subprocess.run(CALLS, input="\n".join(lines + [""]).encode(), capture_output=True, timeout=60)
     return run.stdout.decode("ascii").split("\n")[:-1]
 
 

@@ -1,4 +1,5 @@
 // Answers put into `out` from `at` on; each function answers the place after.
+use events::Event;
 use refusals::Refusal;
 use text::bits::bits_of;
 use text::digits::HEX_DIGITS;
@@ -12,14 +13,18 @@ pub fn word(out: &mut [u8], at: usize, word: &[u8]) -> usize {
     after(at, word.len(), out.len())
 }
 
-// A space and a number's bits.
-pub fn number(out: &mut [u8], from: usize, x: f64) -> usize {
-    let at = word(out, from, b" ");
+pub fn bits(out: &mut [u8], at: usize, x: f64) -> usize {
     put_hex(out, at, bits_of(x));
     after(at, HEX_DIGITS, out.len())
 }
 
-fn decimal(out: &mut [u8], at: usize, n: u64) -> usize {
+// A space and a number's bits.
+pub fn number(out: &mut [u8], from: usize, x: f64) -> usize {
+    let at = word(out, from, b" ");
+    bits(out, at, x)
+}
+
+pub fn decimal(out: &mut [u8], at: usize, n: u64) -> usize {
     let digits = put_decimal(out, at, n);
     after(at, digits, out.len())
 }
@@ -29,6 +34,14 @@ pub fn flag(out: &mut [u8], at: usize, b: bool) -> usize {
         return word(out, at, b"1");
     }
     word(out, at, b"0")
+}
+
+// An event's point and left flag, after a space.
+pub fn end(out: &mut [u8], from: usize, e: Event) -> usize {
+    let at = number(out, from, e.point.x);
+    let at = number(out, at, e.point.y);
+    let at = word(out, at, b" ");
+    flag(out, at, e.left)
 }
 
 pub fn refused(out: &mut [u8], from: usize, refusal: Refusal) -> usize {

@@ -2,7 +2,10 @@
 use crate::answers;
 use crate::before;
 use crate::cross;
+use crate::divide;
 use crate::edge_class;
+use crate::neigh;
+use crate::nextup;
 use crate::orient;
 use crate::segcmp;
 use crate::words::MISSING;
@@ -17,10 +20,14 @@ pub fn answer(line: &[u8], out: &mut [u8], at: usize) -> usize {
     if cross != MISSING {
         return cross::answer(line, cross, out, at);
     }
+    let nextup = passed(line, 0, b"nextup");
+    if nextup != MISSING {
+        return nextup::answer(line, nextup, out, at);
+    }
     records(line, out, at)
 }
 
-// The calls on records.
+// The calls on records that divide none.
 fn records(line: &[u8], out: &mut [u8], at: usize) -> usize {
     let before = passed(line, 0, b"before");
     if before != MISSING {
@@ -33,6 +40,19 @@ fn records(line: &[u8], out: &mut [u8], at: usize) -> usize {
     let class = passed(line, 0, b"class");
     if class != MISSING {
         return edge_class::answer(line, class, out, at);
+    }
+    divisions(line, out, at)
+}
+
+// The calls that divide.
+fn divisions(line: &[u8], out: &mut [u8], at: usize) -> usize {
+    let divide = passed(line, 0, b"divide");
+    if divide != MISSING {
+        return divide::answer(line, divide, out, at);
+    }
+    let neigh = passed(line, 0, b"neigh");
+    if neigh != MISSING {
+        return neigh::answer(line, neigh, out, at);
     }
     answers::malformed(out, at)
 }

@@ -24,31 +24,6 @@ const BELOW: u32 = 4;
 
 const STALE: u32 = 6;
 
-// A left end with what an earlier computation left.
-fn computed(
-    e: Event,
-    edge_type: EdgeType,
-    transition: ResultTransition,
-    in_out: bool,
-    other_in_out: bool,
-    below: Link,
-) -> Event {
-    let point = e.point;
-    Event {
-        point,
-        left: e.left,
-        subject: e.subject,
-        ring: e.ring,
-        partner: e.partner,
-        below,
-        edge_type,
-        transition,
-        in_out,
-        other_in_out,
-        contour: Link::None,
-    }
-}
-
 // An edge from (0, y) to (x, 1), as records i and j.
 fn store(
     points: &mut [[f64; 2]],
@@ -90,7 +65,7 @@ fn store_edge(
 ) {
     store(points, marks, EDGE, 1, 0.0, 1.0, subject);
     let e = read_event(points, marks, EDGE);
-    let stale = computed(
+    let stale = pairs::computed(
         e,
         edge_type,
         ResultTransition::None,
@@ -121,7 +96,7 @@ fn lower(line: &[u8], from: usize, points: &mut [[f64; 2]], marks: &mut [[u32; 1
         points,
         marks,
         LOWER,
-        computed(e, EdgeType::Normal, transition, flags[2], flags[3], below),
+        pairs::computed(e, EdgeType::Normal, transition, flags[2], flags[3], below),
     );
     after
 }

@@ -23,6 +23,31 @@ pub fn end(point: Coordinate, left: bool, subject: bool, ring: u32, partner: u32
     }
 }
 
+// A left end with what an earlier computation left.
+pub fn computed(
+    e: Event,
+    edge_type: EdgeType,
+    transition: ResultTransition,
+    in_out: bool,
+    other_in_out: bool,
+    below: Link,
+) -> Event {
+    let point = e.point;
+    Event {
+        point,
+        left: e.left,
+        subject: e.subject,
+        ring: e.ring,
+        partner: e.partner,
+        below,
+        edge_type,
+        transition,
+        in_out,
+        other_in_out,
+        contour: Link::None,
+    }
+}
+
 // An edge of the call, from one end to the other.
 pub struct Edge {
     pub from: Coordinate,

@@ -6,3 +6,4 @@ pub mod Passed
 pub mod Named
 pub mod Left
 pub mod OnPool
+pub mod Lowest

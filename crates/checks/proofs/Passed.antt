@@ -20,7 +20,7 @@ use Rattle.checks.proofs.Unstruck.{neither, sound, sound-fit, sound-not
 -- ---- refusal 1
 
 module _ (points marks : ℕ) where
-  well-sized : missized points marks ≡ false → Sized points marks
+  pub well-sized : missized points marks ≡ false → Sized points marks
   unfolding missized
   well-sized e =
       let h = neither (not (eqb points marks)) (ltb maxEvents points) e in

@@ -22,17 +22,17 @@ numberOf Unfit = 2
 numberOf Mistaken = 4
 numberOf (MistakenOrRight a b) = 4
 
--- the test for it
-unfoldable pub strikes : Pool → Fault → ℕ → Bool
-strikes p Unfit = on p (unfitAt binary64)
-strikes p Mistaken = on p (mistaken binary64)
-strikes p (MistakenOrRight a b) = on p (mistakenOrRight binary64) (a ∷ b ∷ [])
+-- the test for it, where the records are those below n
+unfoldable pub strikes : Pool → ℕ → Fault → ℕ → Bool
+strikes p n Unfit = unfitAt binary64 (rowAt p) n
+strikes p n Mistaken = mistaken binary64 (rowAt p) n
+strikes p n (MistakenOrRight a b) = mistakenOrRight binary64 (rowAt p) n (a ∷ b ∷ [])
 
 -- 1 for the pool, then 2 and this fault over a list of records
 unfoldable pub checkedFor : Pool → Fault → List ℕ → Check
 checkedFor p fault rs =
     andThen (sized (length (p .points)) (length (p .marks)))
-    (andThen (told (numberOf Unfit) (strikes p Unfit) rs) (told (numberOf fault) (strikes p fault) rs))
+    (andThen (told (numberOf Unfit) (strikes p (size p) Unfit) rs) (told (numberOf fault) (strikes p (size p) fault) rs))
 
 -- 1 for the pool, then 2 and 4 over a list of records
 unfoldable pub checkedAt : Pool → List ℕ → Check

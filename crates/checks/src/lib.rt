@@ -1,11 +1,16 @@
 // 01's refusals 1, 2 and 4 for the records of a pool, run once at each public entry.
 ghost use mathlib.Core.Path.{_≡_};
 ghost use mathlib.Core.List.{[], _∷_};
-ghost use Rattle.events.specs.Pool.{pool};
+ghost use Rattle.events.specs.Binary64.{binary64};
+ghost use Rattle.events.specs.Pool.{pool, rowAt};
+ghost use Rattle.checks.specs.Checks.{checked};
+ghost use Rattle.checks.specs.Loaded.{numbersFrom};
 ghost use Rattle.checks.specs.OnPool.{checkedNamed, checkedLeftNamed};
+use crate::sizes::places;
 use refusals::Refusal;
 
 pub mod list;
+pub mod loaded;
 pub mod records;
 pub mod sizes;
 
@@ -26,7 +31,8 @@ pub enum Fault {
 pub fn check_one(points: &[[f64; 2]], marks: &[[u32; 12]], a: u32) -> Check
     ensures { λ r. ⌜ r ≡ checkedNamed (pool (now (points .entry)) (now (marks .entry))) (a ∷ []) ⌝ }
 {
-    let named = [a, records::mate(points, marks, a)];
+    let n = places(points, marks);
+    let named = [a, records::mate(points, marks, n, a)];
     list::check_records(points, marks, &named)
 }
 
@@ -34,11 +40,12 @@ pub fn check_one(points: &[[f64; 2]], marks: &[[u32; 12]], a: u32) -> Check
 pub fn check_two(points: &[[f64; 2]], marks: &[[u32; 12]], a: u32, b: u32) -> Check
     ensures { λ r. ⌜ r ≡ checkedNamed (pool (now (points .entry)) (now (marks .entry))) (a ∷ b ∷ []) ⌝ }
 {
+    let n = places(points, marks);
     let named = [
         a,
-        records::mate(points, marks, a),
+        records::mate(points, marks, n, a),
         b,
-        records::mate(points, marks, b),
+        records::mate(points, marks, n, b),
     ];
     list::check_records(points, marks, &named)
 }
@@ -47,7 +54,8 @@ pub fn check_two(points: &[[f64; 2]], marks: &[[u32; 12]], a: u32, b: u32) -> Ch
 pub fn check_left_one(points: &[[f64; 2]], marks: &[[u32; 12]], a: u32) -> Check
     ensures { λ r. ⌜ r ≡ checkedLeftNamed (pool (now (points .entry)) (now (marks .entry))) (a ∷ []) ⌝ }
 {
-    let named = [a, records::mate(points, marks, a)];
+    let n = places(points, marks);
+    let named = [a, records::mate(points, marks, n, a)];
     list::check_for(points, marks, Fault::MistakenOrRight(a, a), &named)
 }
 
@@ -55,11 +63,22 @@ pub fn check_left_one(points: &[[f64; 2]], marks: &[[u32; 12]], a: u32) -> Check
 pub fn check_left_two(points: &[[f64; 2]], marks: &[[u32; 12]], a: u32, b: u32) -> Check
     ensures { λ r. ⌜ r ≡ checkedLeftNamed (pool (now (points .entry)) (now (marks .entry))) (a ∷ b ∷ []) ⌝ }
 {
+    let n = places(points, marks);
     let named = [
         a,
-        records::mate(points, marks, a),
+        records::mate(points, marks, n, a),
         b,
-        records::mate(points, marks, b),
+        records::mate(points, marks, n, b),
     ];
     list::check_for(points, marks, Fault::MistakenOrRight(a, b), &named)
+}
+
+// For the sweep: refusals 2 and 4 for the first n records. A link to a number not below n leads outside.
+pub fn check_loaded(points: &[[f64; 2]], marks: &[[u32; 12]], n: u32) -> Check
+    ensures { λ r. ⌜ r ≡ checked binary64 (rowAt (pool (now (points .entry)) (now (marks .entry)))) n (numbersFrom 0 n) ⌝ }
+{
+    match loaded::check_lowest(points, marks, n, Fault::Unfit) {
+        Check::Refused(refusal) => Check::Refused(refusal),
+        Check::Passed => loaded::check_lowest(points, marks, n, Fault::Mistaken),
+    }
 }

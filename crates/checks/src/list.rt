@@ -7,16 +7,23 @@ use crate::Check;
 use crate::Fault;
 use crate::records::is_struck;
 use crate::sizes::POOL_PLACE;
+use crate::sizes::places;
 use crate::sizes::pool_refused;
 use refusals::Refusal;
 
 // The place in the list of the first record with the fault; the list's length where none has it.
-pub fn first_struck(points: &[[f64; 2]], marks: &[[u32; 12]], fault: Fault, list: &[u32]) -> usize
-    ensures { λ r. ⌜ r ≡ first (strikes (pool (now (points .entry)) (now (marks .entry))) fault) (now (list .entry)) ⌝ }
+pub fn first_struck(
+    points: &[[f64; 2]],
+    marks: &[[u32; 12]],
+    n: usize,
+    fault: Fault,
+    list: &[u32],
+) -> usize
+    ensures { λ r. ⌜ r ≡ first (strikes (pool (now (points .entry)) (now (marks .entry))) n fault) (now (list .entry)) ⌝ }
 {
     let mut i = 0;
     while i < list.len() {
-        if is_struck(points, marks, fault, list[i]) {
+        if is_struck(points, marks, n, fault, list[i]) {
             return i;
         }
         i += 1;
@@ -24,7 +31,7 @@ pub fn first_struck(points: &[[f64; 2]], marks: &[[u32; 12]], fault: Fault, list
     i
 }
 
-fn number_of(fault: Fault) -> u64
+pub fn number_of(fault: Fault) -> u64
     ensures { λ r. ⌜ r ≡ numberOf fault ⌝ }
 {
     match fault {
@@ -34,17 +41,23 @@ fn number_of(fault: Fault) -> u64
     }
 }
 
-fn place_of(r: u32) -> u64
+pub fn place_of(r: u32) -> u64
     ensures { λ x. ⌜ x ≡ r ⌝ }
 {
     r as u64
 }
 
 // Refused at the first record with the fault.
-pub fn check_fault(points: &[[f64; 2]], marks: &[[u32; 12]], fault: Fault, list: &[u32]) -> Check
-    ensures { λ r. ⌜ r ≡ told (numberOf fault) (strikes (pool (now (points .entry)) (now (marks .entry))) fault) (now (list .entry)) ⌝ }
+pub fn check_fault(
+    points: &[[f64; 2]],
+    marks: &[[u32; 12]],
+    n: usize,
+    fault: Fault,
+    list: &[u32],
+) -> Check
+    ensures { λ r. ⌜ r ≡ told (numberOf fault) (strikes (pool (now (points .entry)) (now (marks .entry))) n fault) (now (list .entry)) ⌝ }
 {
-    let at = first_struck(points, marks, fault, list);
+    let at = first_struck(points, marks, n, fault, list);
     if at < list.len() {
         return Check::Refused(Refusal {
             number: number_of(fault),
@@ -64,9 +77,10 @@ pub fn check_for(points: &[[f64; 2]], marks: &[[u32; 12]], fault: Fault, list: &
             place: POOL_PLACE,
         });
     }
-    match check_fault(points, marks, Fault::Unfit, list) {
+    let n = places(points, marks);
+    match check_fault(points, marks, n, Fault::Unfit, list) {
         Check::Refused(refusal) => Check::Refused(refusal),
-        Check::Passed => check_fault(points, marks, fault, list),
+        Check::Passed => check_fault(points, marks, n, fault, list),
     }
 }
 

@@ -1,4 +1,4 @@
-// The tests of one record: refusal 2, and the five mistakes of refusal 4 in 01's order.
+// The tests of one record, where a pool's records are those below n: refusal 2, and the five mistakes of refusal 4 in 01's order.
 ghost use mathlib.Core.Path.{_≡_};
 ghost use mathlib.Core.List.{[], _∷_};
 ghost use Rattle.events.specs.Binary64.{binary64};
@@ -6,7 +6,7 @@ ghost use Rattle.events.specs.Coordinates.{ahead};
 ghost use Rattle.events.specs.Pool.{pool, rowAt};
 ghost use Rattle.checks.specs.Checks as Checks;
 ghost use Rattle.checks.specs.Checks.{unfitAt, unpaired, alike, misordered, notToLeft, misled, mistaken, rightAmong, mistakenOrRight};
-ghost use Rattle.checks.specs.OnPool.{on, strikes};
+ghost use Rattle.checks.specs.OnPool.{strikes};
 use crate::Fault;
 use crate::sizes::is_outside;
 use events::Link;
@@ -15,10 +15,10 @@ use events::pool::read_event;
 use numbers::Coordinate;
 
 // Refusal 2: a record of the pool whose point is not fit.
-pub fn is_unfit_at(points: &[[f64; 2]], marks: &[[u32; 12]], r: u32) -> bool
-    ensures { λ x. ⌜ x ≡ on (pool (now (points .entry)) (now (marks .entry))) (unfitAt binary64) r ⌝ }
+pub fn is_unfit_at(points: &[[f64; 2]], marks: &[[u32; 12]], n: usize, r: u32) -> bool
+    ensures { λ x. ⌜ x ≡ unfitAt binary64 (rowAt (pool (now (points .entry)) (now (marks .entry)))) n r ⌝ }
 {
-    if is_outside(points, marks, r) {
+    if is_outside(n, r) {
         return false;
     }
     let e = read_event(points, marks, r);
@@ -26,11 +26,11 @@ pub fn is_unfit_at(points: &[[f64; 2]], marks: &[[u32; 12]], r: u32) -> bool
 }
 
 // Partner not mutual.
-pub fn is_unpaired(points: &[[f64; 2]], marks: &[[u32; 12]], r: u32) -> bool
-    ensures { λ x. ⌜ x ≡ on (pool (now (points .entry)) (now (marks .entry))) unpaired r ⌝ }
+pub fn is_unpaired(points: &[[f64; 2]], marks: &[[u32; 12]], n: usize, r: u32) -> bool
+    ensures { λ x. ⌜ x ≡ unpaired (rowAt (pool (now (points .entry)) (now (marks .entry)))) n r ⌝ }
 {
     let e = read_event(points, marks, r);
-    if is_outside(points, marks, e.partner) {
+    if is_outside(n, e.partner) {
         return true;
     }
     let other = read_event(points, marks, e.partner);
@@ -47,7 +47,7 @@ pub fn is_alike(points: &[[f64; 2]], marks: &[[u32; 12]], r: u32) -> bool
 }
 
 // Earlier by x, then y.
-fn is_ahead(p: Coordinate, q: Coordinate) -> bool
+pub fn is_ahead(p: Coordinate, q: Coordinate) -> bool
     ensures { λ r. ⌜ r ≡ ahead binary64 p q ⌝ }
 {
     if p.x < q.x {
@@ -71,13 +71,13 @@ pub fn is_misordered(points: &[[f64; 2]], marks: &[[u32; 12]], r: u32) -> bool
     !is_ahead(other.point, e.point)
 }
 
-fn is_not_to_left(points: &[[f64; 2]], marks: &[[u32; 12]], below: Link) -> bool
-    ensures { λ x. ⌜ x ≡ on (pool (now (points .entry)) (now (marks .entry))) notToLeft below ⌝ }
+fn is_not_to_left(points: &[[f64; 2]], marks: &[[u32; 12]], n: usize, below: Link) -> bool
+    ensures { λ x. ⌜ x ≡ notToLeft (rowAt (pool (now (points .entry)) (now (marks .entry)))) n below ⌝ }
 {
     match below {
         Link::None => false,
         Link::To(b) => {
-            if is_outside(points, marks, b) {
+            if is_outside(n, b) {
                 return true;
             }
             !read_event(points, marks, b).left
@@ -86,22 +86,22 @@ fn is_not_to_left(points: &[[f64; 2]], marks: &[[u32; 12]], below: Link) -> bool
 }
 
 // Below link not to a left record.
-pub fn is_misled(points: &[[f64; 2]], marks: &[[u32; 12]], r: u32) -> bool
-    ensures { λ x. ⌜ x ≡ on (pool (now (points .entry)) (now (marks .entry))) misled r ⌝ }
+pub fn is_misled(points: &[[f64; 2]], marks: &[[u32; 12]], n: usize, r: u32) -> bool
+    ensures { λ x. ⌜ x ≡ misled (rowAt (pool (now (points .entry)) (now (marks .entry)))) n r ⌝ }
 {
     let e = read_event(points, marks, r);
     let below = e.below;
-    is_not_to_left(points, marks, below)
+    is_not_to_left(points, marks, n, below)
 }
 
 // Refusal 4: one of the five.
-pub fn is_mistaken(points: &[[f64; 2]], marks: &[[u32; 12]], r: u32) -> bool
-    ensures { λ x. ⌜ x ≡ on (pool (now (points .entry)) (now (marks .entry))) (mistaken binary64) r ⌝ }
+pub fn is_mistaken(points: &[[f64; 2]], marks: &[[u32; 12]], n: usize, r: u32) -> bool
+    ensures { λ x. ⌜ x ≡ mistaken binary64 (rowAt (pool (now (points .entry)) (now (marks .entry)))) n r ⌝ }
 {
-    if is_outside(points, marks, r) {
+    if is_outside(n, r) {
         return true;
     }
-    if is_unpaired(points, marks, r) {
+    if is_unpaired(points, marks, n, r) {
         return true;
     }
     if is_alike(points, marks, r) {
@@ -110,7 +110,7 @@ pub fn is_mistaken(points: &[[f64; 2]], marks: &[[u32; 12]], r: u32) -> bool
     if is_misordered(points, marks, r) {
         return true;
     }
-    is_misled(points, marks, r)
+    is_misled(points, marks, n, r)
 }
 
 // A right record that is a or b.
@@ -125,34 +125,35 @@ fn is_right_among(points: &[[f64; 2]], marks: &[[u32; 12]], a: u32, b: u32, r: u
 pub fn is_mistaken_or_right(
     points: &[[f64; 2]],
     marks: &[[u32; 12]],
+    n: usize,
     a: u32,
     b: u32,
     r: u32,
 ) -> bool
-    ensures { λ x. ⌜ x ≡ on (pool (now (points .entry)) (now (marks .entry))) (mistakenOrRight binary64) (a ∷ b ∷ []) r ⌝ }
+    ensures { λ x. ⌜ x ≡ mistakenOrRight binary64 (rowAt (pool (now (points .entry)) (now (marks .entry)))) n (a ∷ b ∷ []) r ⌝ }
 {
-    if is_mistaken(points, marks, r) {
+    if is_mistaken(points, marks, n, r) {
         return true;
     }
     is_right_among(points, marks, a, b, r)
 }
 
 // Whether the record has the fault.
-pub fn is_struck(points: &[[f64; 2]], marks: &[[u32; 12]], fault: Fault, r: u32) -> bool
-    ensures { λ x. ⌜ x ≡ strikes (pool (now (points .entry)) (now (marks .entry))) fault r ⌝ }
+pub fn is_struck(points: &[[f64; 2]], marks: &[[u32; 12]], n: usize, fault: Fault, r: u32) -> bool
+    ensures { λ x. ⌜ x ≡ strikes (pool (now (points .entry)) (now (marks .entry))) n fault r ⌝ }
 {
     match fault {
-        Fault::Unfit => is_unfit_at(points, marks, r),
-        Fault::Mistaken => is_mistaken(points, marks, r),
-        Fault::MistakenOrRight(a, b) => is_mistaken_or_right(points, marks, a, b, r),
+        Fault::Unfit => is_unfit_at(points, marks, n, r),
+        Fault::Mistaken => is_mistaken(points, marks, n, r),
+        Fault::MistakenOrRight(a, b) => is_mistaken_or_right(points, marks, n, a, b, r),
     }
 }
 
 // The partner's number; outside the pool the number itself.
-pub fn mate(points: &[[f64; 2]], marks: &[[u32; 12]], r: u32) -> u32
-    ensures { λ x. ⌜ x ≡ on (pool (now (points .entry)) (now (marks .entry))) Checks.mate r ⌝ }
+pub fn mate(points: &[[f64; 2]], marks: &[[u32; 12]], n: usize, r: u32) -> u32
+    ensures { λ x. ⌜ x ≡ Checks.mate (rowAt (pool (now (points .entry)) (now (marks .entry)))) n r ⌝ }
 {
-    if is_outside(points, marks, r) {
+    if is_outside(n, r) {
         return r;
     }
     read_event(points, marks, r).partner

@@ -1,4 +1,4 @@
-// Refusal 1, and which numbers are outside the pool.
+// Refusal 1, the places of a pool, and which numbers are outside it.
 ghost use mathlib.Core.Path.{_≡_};
 ghost use lib.ListN.{length};
 ghost use Rattle.events.specs.Pool.{pool, size};
@@ -20,13 +20,19 @@ pub fn pool_refused(points: &[[f64; 2]], marks: &[[u32; 12]]) -> bool
     points.len() > MAX_EVENTS
 }
 
-// A number outside the pool.
-pub fn is_outside(points: &[[f64; 2]], marks: &[[u32; 12]], r: u32) -> bool
-    ensures { λ x. ⌜ x ≡ outside (size (pool (now (points .entry)) (now (marks .entry)))) r ⌝ }
+// The places of a pool: those of the shorter array.
+pub fn places(points: &[[f64; 2]], marks: &[[u32; 12]]) -> usize
+    ensures { λ x. ⌜ x ≡ size (pool (now (points .entry)) (now (marks .entry))) ⌝ }
 {
-    let at = r as usize;
-    if at >= points.len() {
-        return true;
+    if points.len() < marks.len() {
+        return points.len();
     }
-    at >= marks.len()
+    marks.len()
+}
+
+// A number outside a pool of n places.
+pub fn is_outside(n: usize, r: u32) -> bool
+    ensures { λ x. ⌜ x ≡ outside n r ⌝ }
+{
+    r as usize >= n
 }

@@ -1,5 +1,5 @@
 -- Demand 3 for a lent pool, at binary64: nothing is assumed but 01's words. Directions are told by the exact orientation, points are one by value.
-use mathlib.Core.Path.{_≡_, ap₂}
+use mathlib.Core.Path.{_≡_, ap, ap₂}
 use mathlib.Core.Bool.{true}
 use mathlib.Core.Option.{some}
 use mathlib.Core.List.{List, List·Memᴰ}
@@ -18,10 +18,13 @@ use Rattle.contours.specs.Accept.{Room}
 use Rattle.contours.specs.Connect.{Finished, refused, stopped, connected, given}
 use Rattle.contours.specs.OnPool.{connectPool}
 use Rattle.contours.specs.Renaming.{RenumberedPool, Relisted, NoneOneWay, EvenEnds, timesWalked, SameFinished, Alike}
+use Rattle.contours.specs.Walls.{toldOf, unclosedAmong, OneToOne}
 use Rattle.contours.proofs.Cause.{Cause}
 use Rattle.contours.proofs.Given.{ResultEdgeAt}
 use Rattle.contours.proofs.Given as G
 use Rattle.contours.proofs.Demand as D
+use Rattle.contours.proofs.Walls as W
+use Rattle.contours.proofs.Told as T
 
 -- ---- order
 
@@ -40,6 +43,11 @@ module _ (ρ : ℕ → ℕ) (p p′ : Pool) (rn : RenumberedPool ρ p p′) (lis
   pub order : NoneOneWay binary64 (rowAt p) list → (f : Finished Coordinate Pool) → connectPool p list room ≡ connected f
       → (g : Finished Coordinate Pool) × (connectPool p′ list′ room ≡ connected g) × SameFinished stored ρ (size p) f g
   order free f e = D.alike-connected stored ρ (size p) (alike free) f e
+
+  -- the same, of what is told: corners, parents, depths, holes and the count of open contours are the same lists of bits
+  pub corners-order : NoneOneWay binary64 (rowAt p) list → (f : Finished Coordinate Pool) → connectPool p list room ≡ connected f
+      → (g : Finished Coordinate Pool) × (connectPool p′ list′ room ≡ connected g) × (toldOf (g .outlines) ≡ toldOf (f .outlines))
+  corners-order free f e = let h = order free f e in (h .0, h .1, ap toldOf (h .2 .outlines))
 
   -- stopped by 9, it is stopped by 9 at the renamed record, with the same contours before it
   pub order-stopped : NoneOneWay binary64 (rowAt p) list → (x : Refusal) (f : Finished Coordinate Pool) → connectPool p list room ≡ stopped x f
@@ -65,6 +73,23 @@ module _ (p : Pool) (list : List ℕ) (room : Room) (f : Finished Coordinate Poo
   pub once : (r : ℕ) → List·Memᴰ r (results (rowAt p) list) → timesWalked (rowAt p) (ordered (rowAt p) binary64 list) r (f .outlines) ≡ 1
   unfolding connectPool stored laws
   once r m = D.once binary64 stored laws fine p (length (p .points)) (length (p .marks)) list room f e r m
+
+  -- ---- the same, of what is told: corners, and result edges by their left records
+
+  -- Each two neighbouring corners are the two ends of a result edge, and each result edge is such a pair at exactly one place of exactly one contour.
+  pub walls : OneToOne binary64 (rowAt p) list (toldOf (f .outlines) .corners)
+  unfolding connectPool stored laws
+  walls = W.one-to-one binary64 stored laws fine p (length (p .points)) (length (p .marks)) list room f e
+
+  -- the count of open contours is that of the contours whose first and last corners differ
+  pub unclosed-told : toldOf (f .outlines) .unclosed ≡ unclosedAmong (same binary64) (toldOf (f .outlines) .corners)
+  unfolding connectPool stored
+  unclosed-told = T.unclosed-told binary64 stored p (length (p .points)) (length (p .marks)) list room f e
+
+  -- if every point ends an even number of result edges, it is 0
+  pub none-unclosed : EvenEnds binary64 (rowAt p) list → toldOf (f .outlines) .unclosed ≡ 0
+  unfolding toldOf
+  none-unclosed even = closing even .1
 
 -- ---- what is given, also where refusal 9 stopped it
 

@@ -5,6 +5,7 @@ use mathlib.Core.Option.{Option}
 use mathlib.Core.List.{List, [], _∷_, map}
 use Prim.Native.Nat.{ℕ, zero, suc, _<_}
 use native.Mathlib.Nat.{not-suc-le-zero, le-of-suc-le-suc}
+use native.Mathlib.Omega.{arith}
 use lib.ListN.{length, getD, length-map}
 use Rattle.contours.specs.Table.{Row}
 use Rattle.contours.specs.Walk.{corners}
@@ -57,6 +58,11 @@ module _ {P : Type 0} (same : P → P → Bool) (n : ℕ) (row : ℕ → Row P) 
   unfolding corners
   corners-length [] h = absurd h
   corners-length (i ∷ t) h = ap (λ (k : ℕ). suc (suc k)) (length-map t (λ j. row (row j .other) .point))
+
+  -- and at least one edge
+  pub some-edge : (t : List ℕ) → Trail t → 0 < length t
+  some-edge [] h = absurd h
+  some-edge (i ∷ t) h = omega arith
 
 module _ {P : Type 0} (same : P → P → Bool) (n : ℕ) (row : ℕ → Row P) (good : Good n row) (value : ByValue n row same) where
   steps-linked : {h c i : ℕ} {ms t : List ℕ} → Steps same n row good value h c i ms t → (p : P) → same p (row i .point) ≡ true → Linked same n row p t

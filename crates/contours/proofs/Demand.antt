@@ -14,6 +14,7 @@ use Rattle.events.specs.declared.Link.{Link}
 use Rattle.events.specs.Coordinates.{Coordinates, same}
 use Rattle.events.specs.Event.{Event}
 use Rattle.events.specs.Store.{Store}
+use Rattle.events.specs.Renaming.{rename}
 use Rattle.events.proofs.Stored.{Stored}
 use Rattle.order.proofs.Laws.{OrderLaws}
 use Rattle.checks.specs.declared.Check.{Check}
@@ -25,7 +26,7 @@ use Rattle.contours.specs.Contours.{Contour, Answer, done, halted, trace
 use Rattle.contours.specs.Outline.{Outline, closes, outline, outlinesFrom, outlines, openCount}
 use Rattle.contours.specs.Accept.{Room, accept}
 use Rattle.contours.specs.Connect.{numberIn, withContour, settled, Finished, Outcome, refused, stopped, connected, rows, rowsAt, finished, outcomeOf, traced, afterChecks, connect}
-use Rattle.contours.specs.Renaming.{rename, Renumbered, Relisted, NoneOneWay, EvenEnds, isEdgeOf, timesWalked, SameFinished, Alike, refused-alike, stopped-alike, connected-alike}
+use Rattle.contours.specs.Renaming.{Renumbered, Relisted, NoneOneWay, EvenEnds, isEdgeOf, timesWalked, SameFinished, Alike, refused-alike, stopped-alike, connected-alike}
 use Rattle.contours.proofs.Lists.{All, getD-map, mem-perm}
 use Rattle.contours.proofs.Places.{place-map, place-of, place-getD}
 use Rattle.contours.proofs.Marks.{bit, openFrom}
@@ -170,15 +171,15 @@ refused-cause C K s points marks list room x e = go (accept C (K .rowAt s) (K .s
 -- ---- closing and once
 
 -- what a connected list is: accepted, and its table traced to the end
-record Traced {P S : Type 0} (C : Coordinates P) (K : Store P S) (s : S) (list : List ℕ) (f : Finished P S) : Type 0 where
-  ok : Accepted C (K .rowAt s) (K .size s) list
-  marks : List ℕ
-  contours : List Contour
-  trace : traced C K s list ≡ done marks contours
-  shown : f .outlines ≡ outlines (same C) (length (rows C K s list)) (rowsAt C K s list) contours
+pub record Traced {P S : Type 0} (C : Coordinates P) (K : Store P S) (s : S) (list : List ℕ) (f : Finished P S) : Type 0 where
+  pub ok : Accepted C (K .rowAt s) (K .size s) list
+  pub marks : List ℕ
+  pub contours : List Contour
+  pub trace : traced C K s list ≡ done marks contours
+  pub shown : f .outlines ≡ outlines (same C) (length (rows C K s list)) (rowsAt C K s list) contours
 
 module _ {P S : Type 0} (C : Coordinates P) (K : Store P S) (s : S) (points marks : ℕ) (list : List ℕ) (room : Room) (f : Finished P S) where
-  connected-is : connect C K s points marks list room ≡ connected f → Traced C K s list f
+  pub connected-is : connect C K s points marks list room ≡ connected f → Traced C K s list f
   unfolding connect afterChecks outcomeOf finished
   connected-is = go (accept C (K .rowAt s) (K .size s) points marks list room) refl
     where

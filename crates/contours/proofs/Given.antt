@@ -24,7 +24,7 @@ use Rattle.contours.proofs.Lists.{All, length-perm}
 use Rattle.contours.proofs.Marks.{openFrom, open-le}
 use Rattle.contours.proofs.Turns.{Ends}
 use Rattle.contours.proofs.Amount.{Amount, amount, outline-count, corner-count, hole-count}
-use Rattle.contours.proofs.Corners.{Trail, edge-at, corners-length, chained}
+use Rattle.contours.proofs.Corners.{Trail, edge-at, corners-length, some-edge, chained}
 use Rattle.contours.proofs.Accepted.{Accepted, Fits, accepted}
 use Rattle.contours.proofs.Good.{size, sorted, good, by-value, sides, lefts-open, rec-in, rec-other, point-is}
 
@@ -164,6 +164,10 @@ module _ {P S : Type 0} (C : Coordinates P) (K : Store P S) (L : OrderLaws C) (f
     pub one-more : length (o .corners) ≡ suc (length (o .trail))
     unfolding outline
     one-more = rw (found .2 .1) (corners-length (same C) count at (found .0 .trail) (found .1))
+
+    pub never-empty : 0 < length (o .trail)
+    unfolding outline
+    never-empty = rw (found .2 .1) (some-edge (same C) count at (found .0 .trail) (found .1))
 
     -- Each two neighbouring corners are the two ends of a result edge, by value: that of the record from whose position the trail goes on.
     pub neighbours : (k : ℕ) → k < length (o .trail) → (d : P) → ResultEdgeAt C recs list o k d (getD (ordered recs C list) (getD (o .trail) k 0) 0)

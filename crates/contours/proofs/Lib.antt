@@ -17,5 +17,8 @@ pub mod Refusals
 pub mod Given
 pub mod Settled
 pub mod Demand
+pub mod Counted
+pub mod Walls
+pub mod Told
 pub mod AtBinary64
 pub mod Examples

@@ -13,6 +13,7 @@ use Rattle.events.specs.declared.Link.{Link}
 use Rattle.events.specs.declared.Link.the-variants.{None, To}
 use Rattle.events.specs.Coordinates.{Coordinates, ahead}
 use Rattle.events.specs.Event.{Event}
+use Rattle.events.specs.Renaming.{renameLink, rename}
 use Rattle.checks.specs.declared.Check.{Check}
 use Rattle.checks.specs.declared.Check.the-variants.{Passed, Refused}
 use Rattle.checks.specs.Checks.{outside, unpaired, alike, inOrder, misordered, notToLeft, misled, mistaken, unfitAt, andThen, sized}
@@ -20,7 +21,7 @@ use Rattle.checks.specs.Sound.{Sound}
 use Rattle.contours.specs.Result.{keep, inResult}
 use Rattle.contours.specs.Accept.{atMost, lowest, refusedAt, toldLowest, listSized, listed, twice, misplaced, halfListed, Room, accept}
 use Rattle.contours.specs.Connect.{withContour}
-use Rattle.contours.specs.Renaming.{renameLink, rename, Renumbered, Relisted}
+use Rattle.contours.specs.Renaming.{Renumbered, Relisted}
 use Rattle.contours.proofs.Lists.{All, all-of, keep-map, keep-perm, length-perm}
 use Rattle.contours.proofs.Places.{eqb-map}
 use Rattle.contours.proofs.Accepted.{soundly}

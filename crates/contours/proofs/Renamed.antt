@@ -9,6 +9,7 @@ use Rattle.events.specs.declared.Link.{Link}
 use Rattle.events.specs.declared.Link.the-variants.{None, To}
 use Rattle.events.specs.Coordinates.{Coordinates}
 use Rattle.events.specs.Event.{Event, key}
+use Rattle.events.specs.Renaming.{renameLink, rename}
 use Rattle.order.specs.Order.{before}
 use Rattle.order.proofs.Laws.{OrderLaws, Valid, trans, apart}
 use Rattle.checks.specs.Sound.{LeftIn, Sound}
@@ -16,7 +17,7 @@ use Rattle.order.specs.Keys.{keyOf}
 use Rattle.contours.specs.Result.{keep, inResult, results, resultEdges, earlier, ordered}
 use Rattle.contours.specs.Table.{belowOf, rowOf, table}
 use Rattle.contours.specs.Connect.{withContour}
-use Rattle.contours.specs.Renaming.{renameLink, rename, Renumbered, Relisted, NoneOneWay}
+use Rattle.contours.specs.Renaming.{Renumbered, Relisted, NoneOneWay}
 use Rattle.contours.proofs.Lists.{All, Pairs, all-of, all-map, all-perm, pairs-of, pairs-keep, keep-perm, keep-map, map-map, length-perm}
 use Rattle.contours.proofs.Sort.{Apart, sort-perm, sort-map}
 use Rattle.contours.proofs.Places.{place-map}

@@ -10,3 +10,4 @@ pub mod Accept
 pub mod Connect
 pub mod OnPool
 pub mod Renaming
+pub mod Walls

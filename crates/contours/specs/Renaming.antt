@@ -7,10 +7,9 @@ use Prim.Native.Nat.{ℕ, _+_, _<_, _%_}
 use lib.ListN.{length, getD}
 use lib.Dec.{eqb, ltb}
 use Rattle.refusals.specs.declared.Refusal.{Refusal}
-use Rattle.events.specs.declared.Link.{Link}
-use Rattle.events.specs.declared.Link.the-variants.{None, To}
 use Rattle.events.specs.Coordinates.{Coordinates, same}
 use Rattle.events.specs.Event.{Event}
+use Rattle.events.specs.Renaming.{rename}
 use Rattle.events.specs.Store.{Store}
 use Rattle.events.specs.Pool.{Pool, size, rowAt}
 use Rattle.order.specs.Order.{oneWay}
@@ -20,27 +19,6 @@ use Rattle.contours.specs.Outline.{Outline}
 use Rattle.contours.specs.Connect.{withContour, Finished, Outcome, refused, stopped, connected}
 
 -- ---- another numbering
-
-unfoldable pub renameLink : (ℕ → ℕ) → Link → Link
-renameLink ρ None = None
-renameLink ρ (To b) = To (ρ b)
-
--- links renamed
-unfoldable pub rename : {P : Type 0} → (ℕ → ℕ) → Event P → Event P
-rename ρ e =
-    record {
-      point = e .point;
-      left = e .left;
-      subject = e .subject;
-      ring = e .ring;
-      partner = ρ (e .partner);
-      below = renameLink ρ (e .below);
-      edgeType = e .edgeType;
-      transition = e .transition;
-      inOut = e .inOut;
-      otherInOut = e .otherInOut;
-      contour = e .contour;
-    }
 
 -- Record r is called ρ r; the contour numbers found may be any, for they are forgotten. Numbers outside the pool are renamed too, and stay outside.
 pub record Renumbered {P : Type 0} (ρ : ℕ → ℕ) (n : ℕ) (row row′ : ℕ → Event P) : Type 0 where

@@ -86,7 +86,7 @@ fn number_of_transition(t: ResultTransition) -> u32
     }
 }
 
-fn event_of(p: [f64; 2], m: [u32; 12]) -> Event
+pub fn event_of(p: [f64; 2], m: [u32; 12]) -> Event
     ensures { λ r. ⌜ shown r ≡ eventOf p m ⌝ }
 {
     Event {
@@ -150,7 +150,7 @@ fn point_of(e: Event) -> [f64; 2]
     [e.point.x, e.point.y]
 }
 
-fn marks_of(e: Event) -> [u32; 12]
+pub fn marks_of(e: Event) -> [u32; 12]
     ensures { λ r. ⌜ r ≡ marksOf (shown e) ⌝ }
 {
     let below = e.below;

@@ -2,3 +2,4 @@
 pub mod Steps
 pub mod Overlaps
 pub mod Meetings
+pub mod Growth

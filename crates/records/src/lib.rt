@@ -15,6 +15,9 @@ use refusals::Refusal;
 use segments::Ordering;
 use segments::compare_segments_at;
 
+pub mod dividing;
+mod in_use;
+
 pub enum Before {
     Refused(Refusal),
     Told(bool),

@@ -6,7 +6,7 @@ use Rattle.checks.proofs.check_one.Tie as tie
 
 returns : tie.Need-returns
 unfolding named
-returns c = rw (c .check-records .ensures, c .before .before .mate .ensures)
+returns c = rw (c .check-records .ensures, c .before .before .mate .ensures, c .before .before .before .places .ensures)
 
 pub check-one-spec : {M : Type 1} → statement M
-check-one-spec = tie.close (tie.spec (λ c κs. tt) (λ c. search needs) (λ c κs. tt) returns)
+check-one-spec = tie.close (tie.spec (λ c κs. tt) (λ c κs. tt) (λ c. search needs) (λ c κs. tt) returns)

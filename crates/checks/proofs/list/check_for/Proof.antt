@@ -13,13 +13,15 @@ returns-2 : tie.Need-returns-2
 unfolding checkedFor sized andThen
 returns-2 c =
     let unfit = c .before .before .before in
-    rw (← unfit .before .before .pool-refused .ensures, unfit .before .if1 .left, ← unfit .check-fault .ensures, c .before .refusal .given .1)
+    let sizes = unfit .before .before in
+    rw (← sizes .before .pool-refused .ensures, sizes .if1 .left, ← unfit .before .places .ensures, ← unfit .check-fault .ensures, c .before .refusal .given .1)
 
 returns-3 : tie.Need-returns-3
 unfolding checkedFor sized andThen
 returns-3 c =
     let fit = c .before .before .before in
-    rw (← fit .before .before .pool-refused .ensures, fit .before .if1 .left, ← fit .check-fault .ensures, c .before .enum-told .given .1, c .check-fault2 .ensures)
+    let sizes = fit .before .before in
+    rw (← sizes .before .pool-refused .ensures, sizes .if1 .left, ← fit .before .places .ensures, ← fit .check-fault .ensures, c .before .enum-told .given .1, c .check-fault2 .ensures)
 
 pub check-for-spec : {M : Type 1} → statement M
-check-for-spec = tie.close (tie.spec (λ c κs. tt) returns (λ c κs. tt) (λ c. search needs) (λ c. search needs) (λ c κs. tt) returns-2 returns-3)
+check-for-spec = tie.close (tie.spec (λ c κs. tt) returns (λ c κs. tt) (λ c κs. tt) (λ c. search needs) (λ c. search needs) (λ c κs. tt) returns-2 returns-3)

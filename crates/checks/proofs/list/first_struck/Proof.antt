@@ -10,10 +10,10 @@ use Rattle.checks.proofs.list.first_struck.Statement.{statement}
 use Rattle.checks.proofs.list.first_struck.Tie as tie
 
 abbrev Inv-loop : tie.InvT-loop
-Inv-loop points marks fault list i₀ i = (i ≤ length list) × Standing (strikes (pool points marks) fault) list i
+Inv-loop points marks n fault list i₀ i = (i ≤ length list) × Standing (strikes (pool points marks) n fault) list i
 
 abbrev μ-loop : tie.MeasureT-loop
-μ-loop points marks fault list i₀ i = length list - i
+μ-loop points marks n fault list i₀ i = length list - i
 
 loop-holds : tie.Need-loop-holds Inv-loop μ-loop
 loop-holds c = (search needs, begun _ _)

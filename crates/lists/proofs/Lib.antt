@@ -1,0 +1,2 @@
+-- The slice while its places are moved.
+pub mod Laws

@@ -1,0 +1,2 @@
+-- A list in a lent slice: insertion and removal.
+pub mod Lists
