@@ -1,0 +1,6 @@
+-- How the loops go over the edges, what passing the checks gives, and that a pool as loaded passes the checks of the sweep.
+pub mod Edges
+pub mod Turns
+pub mod Accepted
+pub mod Rows
+pub mod AsLoaded

@@ -1,0 +1,3 @@
+-- Loading: edges become events.
+pub mod Loading
+pub mod OnPool

@@ -1,0 +1,77 @@
+-- Loading of lent edges into a lent pool, at binary64. An edge's ends are four numbers, x y x y; its labels are its ring, and 1 for the subject.
+use mathlib.Core.Bool.{not, cond, _||_}
+use mathlib.Core.List.{List, [], _∷_}
+use Prim.Native.Nat.{ℕ, _*_}
+use lib.ListN.{length, getD}
+use lib.Dec.{eqb, ltb}
+use lib.Ieee.{Float, nan, eq}
+use Rattle.numbers.specs.Binary64.{zero}
+use Rattle.numbers.specs.declared.Coordinate.{Coordinate}
+use Rattle.events.specs.Binary64.{binary64}
+use Rattle.events.specs.Pool.{Pool, stored}
+use Rattle.checks.specs.declared.Check.{Check}
+use Rattle.checks.specs.declared.Check.the-variants.{Passed, Refused as Struck}
+use Rattle.checks.specs.Checks.{andThen, missized, sizeRefusal}
+use Rattle.loading.specs.declared.edge.Edge as D
+use Rattle.loading.specs.declared.Loaded.{Loaded}
+use Rattle.loading.specs.declared.Loaded.the-variants.{Done, Refused}
+use Rattle.loading.specs.Loading.{Edge, loaded, checkedEdges}
+
+-- ---- the lent edges
+
+-- minus zero is stored as zero
+unfoldable pub unsigned : Float → Float
+unsigned x = cond (eq x zero) zero x
+
+unfoldable pub endOf : List Float → ℕ → ℕ → Coordinate
+endOf ends i j = record { x = unsigned (getD ends i nan); y = unsigned (getD ends j nan) }
+
+unfoldable pub edgeOf : List Float → List ℕ → Edge Coordinate
+edgeOf ends labels =
+    record { subject = eqb (getD labels 1 0) 1; ring = getD labels 0 0; from = endOf ends 0 1; to = endOf ends 2 3 }
+
+unfoldable pub edgesOf : List (List Float) → List (List ℕ) → List (Edge Coordinate)
+edgesOf [] labels = []
+edgesOf (e ∷ ends) [] = []
+edgesOf (e ∷ ends) (l ∷ labels) = edgeOf e l ∷ edgesOf ends labels
+
+-- the edge at a place, and the code's struct of one
+unfoldable pub edgeAt : List (List Float) → List (List ℕ) → ℕ → Edge Coordinate
+edgeAt ends labels i = edgeOf (getD ends i []) (getD labels i [])
+
+abbrev pub shownEdge : D.Edge → Edge Coordinate
+shownEdge e = record { subject = e .subject; ring = e .ring; from = e .from; to = e .to }
+
+-- ---- refusal 1: the edges, at place 0, then the pool, at place 1
+
+-- the most edges
+abbrev pub maxEdges : ℕ
+maxEdges = 2048
+
+unfoldable pub edgesSized : (ends labels : ℕ) → Check
+edgesSized ends labels = cond (not (eqb ends labels) || ltb maxEdges ends) (Struck (record { number = 1; place = 0 })) Passed
+
+-- two places for each edge
+unfoldable pub poolSized : (points marks edges : ℕ) → Check
+poolSized points marks edges = cond (missized points marks || ltb points (2 * edges)) (Struck sizeRefusal) Passed
+
+unfoldable pub accept : List (List Float) → List (List ℕ) → Pool → Check
+accept ends labels p =
+    andThen (edgesSized (length ends) (length labels))
+    (andThen (poolSized (length (p .points)) (length (p .marks)) (length ends)) (checkedEdges binary64 0 (edgesOf ends labels)))
+
+-- ---- the answer, with the places in use, and the pool; a refused call leaves it as lent
+
+pub record After : Type 0 where
+  pub answer : Loaded
+  pub pool : Pool
+
+abbrev pub after : Loaded → Pool → After
+after a p = record { answer = a; pool = p }
+
+unfoldable pub afterChecks : Check → List (Edge Coordinate) → Pool → After
+afterChecks Passed edges p = record { answer = Done (2 * length edges); pool = loaded binary64 stored p 0 edges }
+afterChecks (Struck r) edges p = record { answer = Refused r; pool = p }
+
+unfoldable pub load : List (List Float) → List (List ℕ) → Pool → After
+load ends labels p = afterChecks (accept ends labels p) (edgesOf ends labels) p

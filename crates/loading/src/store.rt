@@ -1,0 +1,71 @@
+// Edge i as records 2i, its first end, and 2i+1; the end earlier by x, then y, is left.
+ghost use mathlib.Core.Path.{_≡_};
+ghost use Prim.Native.Nat.{_*_, _<_, _≤_};
+ghost use lib.ListN.{length};
+ghost use Rattle.events.specs.Binary64.{binary64};
+ghost use Rattle.events.specs.Event.{shown};
+ghost use Rattle.events.specs.Pool.{pool, stored};
+ghost use Rattle.loading.specs.Loading as Loading;
+ghost use Rattle.loading.specs.Loading.{loadedEdge, loaded};
+ghost use Rattle.loading.specs.OnPool.{maxEdges, edgesOf, shownEdge};
+use crate::edge::Edge;
+use crate::edge::edge_count;
+use crate::edge::read_edge;
+use checks::records::is_ahead;
+use events::EdgeType;
+use events::Event;
+use events::Link;
+use events::ResultTransition;
+use events::pool::store_event;
+use numbers::Coordinate;
+
+// An end of the edge.
+fn end(e: Edge, p: Coordinate, left: bool, partner: u32) -> Event
+    ensures { λ r. ⌜ shown r ≡ Loading.end (shownEdge e) p left partner ⌝ }
+{
+    Event {
+        point: p,
+        left: left,
+        subject: e.subject,
+        ring: e.ring,
+        partner: partner,
+        below: Link::None,
+        edge_type: EdgeType::Normal,
+        transition: ResultTransition::None,
+        in_out: false,
+        other_in_out: false,
+        contour: Link::None,
+    }
+}
+
+fn load_edge(points: &mut [[f64; 2]], marks: &mut [[u32; 12]], i: u32, e: Edge)
+    requires { ⌜ i < maxEdges ⌝ }
+    ensures { λ _. ⌜ pool (now (points .exit)) (now (marks .exit)) ≡ loadedEdge binary64 stored (pool (now (points .entry)) (now (marks .entry))) i (shownEdge e) ⌝ }
+{
+    let from = e.from;
+    let to = e.to;
+    let first = 2 * i;
+    let second = first + 1;
+    let left = is_ahead(from, to);
+    store_event(points, marks, first, end(e, from, left, second));
+    store_event(points, marks, second, end(e, to, !left, first));
+}
+
+// All edges; the answer is how many places are in use.
+pub fn load_edges(
+    ends: &[[f64; 4]],
+    labels: &[[u32; 2]],
+    points: &mut [[f64; 2]],
+    marks: &mut [[u32; 12]],
+) -> u32
+    requires { ⌜ length (edgesOf (now ends) (now labels)) ≤ maxEdges ⌝ }
+    ensures { λ r. ⌜ (r ≡ 2 * length (edgesOf (now (ends .entry)) (now (labels .entry)))) × (pool (now (points .exit)) (now (marks .exit)) ≡ loaded binary64 stored (pool (now (points .entry)) (now (marks .entry))) 0 (edgesOf (now (ends .entry)) (now (labels .entry)))) ⌝ }
+{
+    let n = edge_count(ends, labels);
+    let mut i = 0;
+    while i < n {
+        load_edge(points, marks, i as u32, read_edge(ends, labels, i));
+        i += 1;
+    }
+    2 * (n as u32)
+}

@@ -1,0 +1,2 @@
+-- The status.
+pub mod Status

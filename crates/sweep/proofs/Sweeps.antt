@@ -1,0 +1,139 @@
+-- The whole sweep: what the run starts from, and what its last turn tells.
+use mathlib.Core.Path.{_≡_, refl, ap, _∙_}
+use mathlib.Core.Bool.{Bool, true, false, not, cond, _||_}
+use mathlib.Core.List.{List, [], _∷_, _++_}
+use mathlib.Core.Option.{Option}
+use Prim.Native.Nat.{ℕ, zero, suc, _+_, _-_, _/_, _≤_}
+use native.Mathlib.Numerals.{add-one}
+use native.Mathlib.Nat.{zero-add}
+use native.Mathlib.Omega.{arith}
+use borrow.Author.Tests.{eqb-true, not-false}
+use lib.Dec.{eqb, ltb}
+use lib.ListN.{length, take, drop, replicate, length-replicate}
+use lib.Seq.{sets, sets-eq, length-take-le}
+use Rattle.refusals.specs.declared.Refusal.{Refusal}
+use Rattle.numbers.specs.declared.Coordinate.{Coordinate}
+use Rattle.events.specs.Binary64.{binary64, plain}
+use Rattle.events.specs.Pool.{Pool, size, rowAt, stored}
+use Rattle.events.proofs.Stored.{pool-stored}
+use Rattle.class.specs.declared.Operation.{Operation}
+use Rattle.checks.specs.declared.Check.{Check}
+use Rattle.checks.specs.declared.Check.the-variants.{Passed, Refused}
+use Rattle.checks.specs.Checks.{maxEvents, missized, sizeRefusal, sized}
+use Rattle.checks.specs.Sound.{Sized}
+use Rattle.checks.proofs.Told.{not-both, both-passed}
+use Rattle.checks.proofs.Passed.{sized-passed}
+use Rattle.sweep.specs.declared.Outcome.{Outcome}
+use Rattle.sweep.specs.declared.turn.Turn.{Turn}
+use Rattle.sweep.specs.State.{State, start}
+use Rattle.sweep.specs.Bounds.{rightmost, isPast, past}
+use Rattle.sweep.specs.Run.{run, subdivide, divisions}
+use Rattle.sweep.specs.OnPool.{After, after, sizes, accept, outcomeOf, answerOf, afterRun, asLent, afterChecks, subdividePool}
+use Rattle.sweep.specs.Turn.{state, startTurn, everywhere, Fits, Beyond}
+use Rattle.sweep.proofs.Flags.{trues-all}
+use Rattle.sweep.proofs.Ends.{counted}
+
+-- ---- the checks
+
+-- the lent arrays of an accepted pool are of one size
+pub accepted : (p : Pool) (n : ℕ) (taken : List ℕ) → accept p n taken ≡ Passed → Sized (length (p .points)) (length (p .marks)) × (length (p .points) ≡ length taken)
+unfolding accept sizes sized
+accepted p n taken h = by (missized a b) refl (not (eqb a k)) refl (ltb a n) refl (both-passed (sizes a b k n) _ h .0)
+  where
+    a : ℕ
+    a = length (p .points)
+
+    b : ℕ
+    b = length (p .marks)
+
+    k : ℕ
+    k = length taken
+
+    by : (x : Bool) → missized a b ≡ x → (y : Bool) → not (eqb a k) ≡ y → (z : Bool) → ltb a n ≡ z → cond (x || (y || z)) (Refused sizeRefusal) Passed ≡ Passed → Sized a b × (a ≡ k)
+    by true i y j z l e = absurd (not-both _ _ e refl)
+    by false i true j z l e = absurd (not-both _ _ e refl)
+    by false i false j true l e = absurd (not-both _ _ e refl)
+    by false i false j false l e = (sized-passed a b (rw i), eqb-true a k (not-false _ j))
+
+-- ---- the start
+
+pub places-are : (p : Pool) → Sized (length (p .points)) (length (p .marks)) → length (p .points) ≡ stored .size p
+unfolding stored size
+places-are p s = omega (arith, s .equal)
+
+prefix : {A : Type 0} (n m : ℕ) (a : A) → n ≤ m → take n (replicate m a) ≡ replicate n a
+prefix zero m a h = refl
+prefix (suc n) zero a h = absurd (omega arith)
+prefix (suc n) (suc m) a h = ap (λ l. a ∷ l) (prefix n m a (omega arith))
+
+-- as many flags as the pool has places
+pub flags-at-start : (n : ℕ) (w : List Bool) → n ≤ maxEvents → w ≡ everywhere true → take n w ≡ replicate n true
+unfolding everywhere
+flags-at-start n w h e = rw e (prefix n maxEvents true h)
+
+pub as-many-flags : (n : ℕ) (w : List Bool) → n ≤ maxEvents → w ≡ everywhere true → n ≡ length (take n w)
+as-many-flags n w h e = rw (flags-at-start n w h e, length-replicate)
+
+pub long-enough : {A : Type 0} (a : A) (l : List A) → l ≡ everywhere a → length l ≡ maxEvents
+unfolding everywhere
+long-enough a l e = rw (e, length-replicate)
+
+pub fits-at-start : (n loaded : ℕ) (w : List Bool) (status taken : List ℕ) (t : Turn) → n ≤ maxEvents → n ≡ length taken → w ≡ replicate n true → status ≡ everywhere 0 → t ≡ startTurn loaded → Fits w status taken t
+unfolding startTurn
+fits-at-start n loaded w status taken t few is hw hs ht =
+    let all = trues-all n in
+    let long = long-enough 0 status hs in
+    rw (ht, hw) (record { counted = omega (arith, all, is); ranked = omega arith; room = omega (arith, long, is, few); few = omega (arith, long) })
+
+-- ---- the end
+
+split-at : (n : ℕ) (l : List ℕ) → take n l ++ drop n l ≡ l
+split-at zero l = refl
+split-at (suc n) [] = refl
+split-at (suc n) (x ∷ l) = ap (λ r. x ∷ r) (split-at n l)
+
+-- the events taken stand from the first place on, and the rest is as lent
+listed : (c : ℕ) (lent now : List ℕ) → c ≤ length lent → length now ≡ length lent → drop c now ≡ drop c lent → sets lent 0 (take c now) ≡ now
+listed c lent now h l e =
+    let long : length (take c now) ≡ c = length-take-le c now (omega arith) in
+    let all : 0 + length (take c now) ≤ length lent = omega (arith, long) in
+    let whole : take c now ++ drop c lent ≡ now = rw (← e) (split-at c now) in
+    sets-eq (take c now) lent 0 all ∙ rw (long, zero-add) whole
+
+-- before anything is done no event is taken and no segment is in the status
+pub none-yet : (n : ℕ) (t : Turn) (l : List ℕ) → t ≡ startTurn n → (take (t .members) l ≡ []) × (take (t .count) l ≡ [])
+unfolding startTurn
+none-yet n t l h = rw h (refl, refl)
+
+-- the run from there: p, l, k and so on, the pool, the status and the events taken, before it and, with a mark, after it
+module _ (p : Pool) (n loaded : ℕ) (op : Operation) (w : List Bool) (l k : List ℕ) (t r : Turn) (subject clip : Option Coordinate) (p' : Pool) (w' : List Bool) (l' k' : List ℕ) (places : n ≡ stored .size p) (hs : subject ≡ rightmost binary64 (rowAt p) true loaded) (hc : clip ≡ rightmost binary64 (rowAt p) false loaded) (hw : w ≡ replicate n true) (hl : l ≡ []) (hk : k ≡ []) (ht : t ≡ startTurn loaded) (hr : state p' w' l' k' r ≡ run binary64 stored plain op (isPast binary64 op subject clip) (n + 1) (state p w l k t)) where
+  swept-state : state p' w' l' k' r ≡ subdivide binary64 stored plain op p loaded
+  unfolding subdivide start past startTurn stored
+  swept-state = hr ∙ rw (ht, hw, hl, hk, hs, hc, places, add-one)
+
+  -- the places in use do not become fewer
+  pub not-fewer : loaded ≤ r .used
+  not-fewer =
+      let more = counted binary64 stored pool-stored plain op p loaded .grows .used in
+      let same = ap (λ (z : State Pool). z .used) swept-state in
+      omega (arith, more, same)
+
+  pub swept-is : (o : Outcome) (status' taken taken' : List ℕ) → k' ≡ take (r .count) taken' → o ≡ outcomeOf (r .stop) → Fits w' status' taken' r → Beyond taken taken' t r → length taken' ≡ length taken
+      → after (record { taken = r .count; divisions = (r .used - loaded) / 2; used = r .used; tied = r .tied; outcome = o }) p' taken' ≡ afterRun (subdivide binary64 stored plain op p loaded) loaded taken
+  unfolding afterRun answerOf divisions
+  swept-is o status' taken taken' hk' ho fits beyond same =
+      let within : r .count ≤ length taken' = omega (arith, fits .counted) in
+      let long = length-take-le (r .count) taken' within in
+      let list = listed (r .count) taken taken' (omega (arith, within, same)) same (beyond .rest) in
+      rw (← swept-state, hk', list, long, ho)
+
+-- ---- refused, or swept
+
+module _ (op : Operation) (p : Pool) (n : ℕ) (taken : List ℕ) (x : Check) (is : x ≡ accept p n taken) where
+  pub refused-is : (r : Refusal) → x ≡ Refused r → asLent r p n taken ≡ subdividePool op p n taken
+  unfolding subdividePool afterChecks
+  refused-is r h = rw (← is, h)
+
+  pub passed-is : (y : After) → x ≡ Passed → y ≡ afterRun (subdivide binary64 stored plain op p n) n taken → y ≡ subdividePool op p n taken
+  unfolding subdividePool afterChecks
+  passed-is y h e = rw (← is, h) e

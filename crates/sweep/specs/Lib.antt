@@ -1,0 +1,7 @@
+-- The sweep (`subdivide_segments.rs`), in the order of its steps: the state, one event, the run, the entry on a lent pool.
+pub mod State
+pub mod Bounds
+pub mod Event
+pub mod Run
+pub mod OnPool
+pub mod Turn

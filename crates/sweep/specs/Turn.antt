@@ -1,0 +1,73 @@
+-- The code's turn beside its arrays, as a state of the sweep, and the turns that it makes.
+use mathlib.Core.Bool.{Bool, true, false, cond, _||_}
+use mathlib.Core.List.{List, [], _∷_}
+use mathlib.Core.Path.{_≡_}
+use Prim.Native.Nat.{ℕ, zero, suc, _+_, _≤_}
+use lib.ListN.{length, drop, replicate}
+use Rattle.events.specs.Pool.{Pool}
+use Rattle.checks.specs.Checks.{maxEvents}
+use Rattle.neighbours.specs.declared.Met.{Met}
+use Rattle.sweep.specs.declared.turn.Turn.{Turn}
+use Rattle.sweep.specs.declared.turn.Stop.{Stop}
+use Rattle.sweep.specs.declared.turn.Stop.the-variants.{Going, Ended, Refused}
+use Rattle.sweep.specs.State.{State, stopBy}
+
+-- with the members of the status and the events taken
+abbrev pub state : Pool → List Bool → List ℕ → List ℕ → Turn → State Pool
+state p waits status taken t =
+    record { store = p; used = t .used; waits = waits; status = status; taken = taken; tied = t .tied; stop = t .stop }
+
+-- ---- the turns
+
+-- nothing is taken yet
+unfoldable pub startTurn : ℕ → Turn
+startTurn n = record { used = n; members = 0; count = 0; tied = false; stop = Going }
+
+-- the run has come to its end
+unfoldable pub endedTurn : Turn → Turn
+endedTurn t = record { used = t .used; members = t .members; count = t .count; tied = t .tied; stop = Ended }
+
+-- an event is taken; whether another ties with it
+unfoldable pub takenTurn : Turn → Bool → Turn
+takenTurn t rival = record { used = t .used; members = t .members; count = t .count + 1; tied = t .tied || rival; stop = t .stop }
+
+-- after a meeting, with this many members
+unfoldable pub metTurn : Turn → ℕ → ℕ → Met → Turn
+metTurn t members used met = record { used = used; members = members; count = t .count; tied = t .tied; stop = stopBy met }
+
+unfoldable pub isStopped : Stop → Bool
+isStopped Going = false
+isStopped Ended = true
+isStopped (Refused r) = true
+
+-- ---- what keeps within the arrays
+
+-- one value for every place that a pool can have
+unfoldable pub everywhere : {A : Type 0} → A → List A
+everywhere a = replicate maxEvents a
+
+-- the flags that are true
+unfoldable pub trues : List Bool → ℕ
+trues [] = zero
+trues (b ∷ l) = cond b (suc (trues l)) (trues l)
+
+-- Each place is taken or still waits, and no more are in the status than were taken.
+pub record Fits (waits : List Bool) (status taken : List ℕ) (t : Turn) : Type 0 where
+  pub counted : trues waits + t .count ≡ length taken
+  pub ranked : t .members ≤ t .count
+  pub room : length taken ≤ length status
+  pub few : length status ≤ maxEvents
+
+-- A change of pool, status and turn is the definition's, whatever waits and was taken.
+pub record Does (f : State Pool → State Pool) (p : Pool) (status : List ℕ) (t : Turn) (p' : Pool) (status' : List ℕ) (t' : Turn) : Type 0 where
+  pub is : (waits : List Bool) (taken : List ℕ) → state p' waits status' taken t' ≡ f (state p waits status taken t)
+
+-- one event's work: none is taken, and at most one segment enters
+pub record Worked (t r : Turn) : Type 0 where
+  pub count : r .count ≡ t .count
+  pub members : r .members ≤ t .members + 1
+
+-- the places of the taken list beyond its events are as they were
+pub record Beyond (before after : List ℕ) (t r : Turn) : Type 0 where
+  pub more : t .count ≤ r .count
+  pub rest : drop (r .count) after ≡ drop (r .count) before

@@ -1,0 +1,158 @@
+// The sweep (`subdivide_segments.rs`).
+ghost use mathlib.Core.Path.{_≡_};
+ghost use mathlib.Core.Bool.{Bool};
+ghost use lib.ListN.{length};
+ghost use Rattle.events.specs.Binary64.{binary64, plain};
+ghost use Rattle.events.specs.Pool.{pool, stored};
+ghost use Rattle.checks.specs.Sound.{Sized};
+ghost use Rattle.sweep.specs.OnPool.{after, sizes, accept, outcomeOf, afterRun, subdividePool};
+ghost use Rattle.sweep.specs.Run as Spec;
+ghost use Rattle.sweep.specs.Turn.{everywhere};
+
+mod bounds;
+mod event;
+mod run;
+mod turn;
+
+use bounds::bounds_of;
+use checks::Check;
+use checks::check_loaded;
+use checks::sizes::MAX_EVENTS;
+use checks::sizes::POOL_PLACE;
+use checks::sizes::pool_refused;
+use class::Operation;
+use refusals::Refusal;
+use refusals::SIZE;
+use run::run;
+use turn::Stop;
+use turn::start;
+
+pub enum Outcome {
+    Done,
+    Refused(Refusal),
+}
+
+// What a sweep did, to the end or until it was refused.
+pub struct Swept {
+    // The events taken.
+    pub taken: u32,
+    // The divisions made.
+    pub divisions: u32,
+    // The places of the pool now in use: the loaded events and two for each division.
+    pub used: u32,
+    // At some taking another waiting event tied with the one taken.
+    pub tied: bool,
+    pub outcome: Outcome,
+}
+
+// The pool's arrays, of which the taken list is one, unequal or above the limit, or more records loaded than there are places.
+fn check_sizes(points: &[[f64; 2]], marks: &[[u32; 12]], taken: &[u32], loaded: u32) -> Check
+    ensures { λ r. ⌜ r ≡ sizes (length (now (points .entry))) (length (now (marks .entry))) (length (now (taken .entry))) loaded ⌝ }
+{
+    let refused = Check::Refused(Refusal {
+        number: SIZE,
+        place: POOL_PLACE,
+    });
+    if pool_refused(points, marks) {
+        return refused;
+    }
+    if points.len() != taken.len() {
+        return refused;
+    }
+    if points.len() < loaded as usize {
+        return refused;
+    }
+    Check::Passed
+}
+
+// 1, then 2 and 4, for the loaded records.
+fn check(points: &[[f64; 2]], marks: &[[u32; 12]], taken: &[u32], loaded: u32) -> Check
+    ensures { λ r. ⌜ r ≡ accept (pool (now (points .entry)) (now (marks .entry))) loaded (now (taken .entry)) ⌝ }
+{
+    match check_sizes(points, marks, taken, loaded) {
+        Check::Refused(refusal) => Check::Refused(refusal),
+        Check::Passed => check_loaded(points, marks, loaded),
+    }
+}
+
+fn outcome_of(stop: Stop) -> Outcome
+    ensures { λ r. ⌜ r ≡ outcomeOf stop ⌝ }
+{
+    match stop {
+        Stop::Going => Outcome::Done,
+        Stop::Ended => Outcome::Done,
+        Stop::Refused(refusal) => Outcome::Refused(refusal),
+    }
+}
+
+// Every place of a pool waits.
+fn all_waiting() -> [bool; MAX_EVENTS]
+    ensures { λ r. ⌜ r ≡ everywhere Bool.true ⌝ }
+{
+    [true; MAX_EVENTS]
+}
+
+// Room for as many members as a pool has places.
+fn no_members() -> [u32; MAX_EVENTS]
+    ensures { λ r. ⌜ r ≡ everywhere 0 ⌝ }
+{
+    [0u32; MAX_EVENTS]
+}
+
+// The run, from all loaded records waiting, with one step more than there are places.
+fn sweep(
+    points: &mut [[f64; 2]],
+    marks: &mut [[u32; 12]],
+    loaded: u32,
+    operation: Operation,
+    taken: &mut [u32],
+) -> Swept
+    requires { ⌜ Sized (length (now points)) (length (now marks)) × (length (now points) ≡ length (now taken)) ⌝ }
+    ensures { λ r. ⌜ after r (pool (now (points .exit)) (now (marks .exit))) (now (taken .exit)) ≡ afterRun (Spec.subdivide binary64 stored plain operation (pool (now (points .entry)) (now (marks .entry))) loaded) loaded (now (taken .entry)) ⌝ }
+{
+    let size = points.len();
+    let bounds = bounds_of(points, marks, loaded);
+    let mut waits = all_waiting();
+    let mut status = no_members();
+    let last = run(
+        points,
+        marks,
+        &mut waits[..size],
+        &mut status,
+        taken,
+        start(loaded),
+        operation,
+        bounds,
+        size + 1,
+    );
+    let stop = last.stop;
+    Swept {
+        taken: last.count,
+        divisions: (last.used - loaded) / 2,
+        used: last.used,
+        tied: last.tied,
+        outcome: outcome_of(stop),
+    }
+}
+
+// Sweeps the first `loaded` records of a pool; the events taken stand in `taken`, from its first place.
+pub fn subdivide(
+    points: &mut [[f64; 2]],
+    marks: &mut [[u32; 12]],
+    loaded: u32,
+    operation: Operation,
+    taken: &mut [u32],
+) -> Swept
+    ensures { λ r. ⌜ after r (pool (now (points .exit)) (now (marks .exit))) (now (taken .exit)) ≡ subdividePool operation (pool (now (points .entry)) (now (marks .entry))) loaded (now (taken .entry)) ⌝ }
+{
+    match check(points, marks, taken, loaded) {
+        Check::Refused(refusal) => Swept {
+            taken: 0,
+            divisions: 0,
+            used: loaded,
+            tied: false,
+            outcome: Outcome::Refused(refusal),
+        },
+        Check::Passed => sweep(points, marks, loaded, operation, taken),
+    }
+}

@@ -1,0 +1,3 @@
+-- Laws of one event's work.
+pub mod Events
+pub mod Growth

@@ -1,0 +1,2 @@
+-- What one event does to the records.
+pub mod Event

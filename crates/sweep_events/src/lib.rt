@@ -1,0 +1,4 @@
+// What one event of the sweep does to the records of the pool: its class, its meetings with its neighbours in the status, and its place there.
+pub mod classes;
+pub mod meetings;
+pub mod slots;

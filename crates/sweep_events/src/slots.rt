@@ -1,0 +1,59 @@
+// Where a left event enters the status: below the first member, from the bottom, that it compares less than.
+ghost use mathlib.Core.Path.{_≡_};
+ghost use mathlib.Core.Bool.{Bool, cond};
+ghost use lib.Dec.{eqb};
+ghost use lib.ListN.{take};
+ghost use Rattle.events.specs.Binary64.{binary64, plain};
+ghost use Rattle.events.specs.Pool.{pool, stored};
+ghost use Rattle.order.specs.Keys.{shownKey, keyUsed};
+ghost use Rattle.segments.specs.Segments.{compareSegments};
+ghost use Rattle.status.specs.Status.{slot};
+ghost use Rattle.sweep_events.specs.Event.{isLess, isBelow};
+use order::Key;
+use order::key_used;
+use segments::Ordering;
+use segments::compare_segments;
+use status::count;
+
+fn is_less(ordering: Ordering) -> bool
+    ensures { λ r. ⌜ r ≡ isLess ordering ⌝ }
+{
+    match ordering {
+        Ordering::Less => true,
+        Ordering::Equal => false,
+        Ordering::Greater => false,
+    }
+}
+
+// Left record e, whose key this is, compares less than member x.
+fn is_below(points: &[[f64; 2]], marks: &[[u32; 12]], used: u32, e: u32, key: Key, x: u32) -> bool
+    ensures { λ r. ⌜ r ≡ cond (eqb e x) Bool.false (isLess (compareSegments binary64 plain (shownKey key) (keyUsed stored (pool (now (points .entry)) (now (marks .entry))) used x))) ⌝ }
+{
+    if e == x {
+        return false;
+    }
+    is_less(compare_segments(key, key_used(points, marks, used, x)))
+}
+
+// The place in the status, which may be the one behind its last.
+pub fn slot_below(
+    points: &[[f64; 2]],
+    marks: &[[u32; 12]],
+    used: u32,
+    status: &[u32],
+    n: usize,
+    e: u32,
+) -> usize
+    ensures { λ r. ⌜ r ≡ slot (isBelow binary64 stored plain (pool (now (points .entry)) (now (marks .entry))) used e) (take n (now (status .entry))) ⌝ }
+{
+    let key = key_used(points, marks, used, e);
+    let end = count(status, n);
+    let mut i = 0;
+    while i < end {
+        if is_below(points, marks, used, e, key, status[i]) {
+            return i;
+        }
+        i += 1;
+    }
+    i
+}

@@ -1,0 +1,233 @@
+-- Partners stay mutual and on their proper sides, and points fit, through the whole run; so event order is total and transitive on what waits.
+use mathlib.Core.Path.{_≡_, refl, sym, ap, ap₂, _∙_, subst}
+use mathlib.Core.Logic.{_≢_}
+use mathlib.Core.Bool.{Bool, true, false, cond, true≢false}
+use Prim.Native.Nat.{ℕ, _+_, _<_, _≤_}
+use native.Mathlib.Omega.{arith}
+use lib.Dec.{eqb, ltb}
+use borrow.Author.Tests.{ltb-true, lt-ltb, eqb-true, eqb-false, not-false}
+use Rattle.events.specs.Coordinates.{Coordinates, same, ahead}
+use Rattle.events.specs.Event.{Event, key}
+use Rattle.events.specs.Store.{Store, look}
+use Rattle.events.proofs.Stored.{Stored}
+use Rattle.order.specs.Order.{onSide}
+use Rattle.order.specs.Keys.{keyOf, keyUsed}
+use Rattle.order.proofs.Laws.{Valid, ahead-asym}
+use Rattle.checks.specs.Checks.{inOrder}
+use Rattle.checks.specs.Sound as Checked
+use Rattle.division.specs.declared.Division.{Division}
+use Rattle.division.specs.declared.Division.the-variants.{Done, Refused}
+use Rattle.division.specs.declared.Divided.{Divided}
+use Rattle.division.specs.Division.{moved, misses, newEnd, linked, After, divide}
+use Rattle.division.specs.Records.{Paired}
+use Rattle.division.proofs.Outcomes.{as-lent, same-size, passed, used-after}
+use Rattle.division.proofs.Sides.{MoveLaws}
+use Rattle.division.proofs.Whole.{Segment, Whole, whole}
+use Rattle.neighbours.specs.Step.{cut}
+use Rattle.checks.proofs.Unstruck.{neither}
+use Rattle.sweep_order.proofs.Twins.{Blanks}
+use Rattle.sweep_order.proofs.Walk.{Face, face-store, Closed}
+
+-- record r of the first n
+pub record Sound {P : Type 0} (C : Coordinates P) (row : ℕ → Event P) (n r : ℕ) : Type 0 where
+  pub paired : Paired row n r
+  pub side : onSide C (keyOf row r) ≡ true
+  pub fit : C .fit (row r .point) ≡ true
+
+pub record Good {P S : Type 0} (C : Coordinates P) (K : Store P S) (s : S) (used : ℕ) : Type 0 where
+  pub fits : used ≤ K .size s
+  pub sound : (r : ℕ) → r < used → Sound C (look K s used) used r
+
+-- ---- what the checks 2 and 4 leave
+
+module _ {P S : Type 0} (C : Coordinates P) (K : Store P S) where
+  pub in-use : (s : S) (used r : ℕ) → r < used → look K s used r ≡ K .rowAt s r
+  unfolding look
+  in-use s used r l = rw (lt-ltb r used l)
+
+  module _ (s : S) (n : ℕ) where
+    sound-checked : (r : ℕ) → Checked.Sound C (K .rowAt s) n r → Sound C (look K s n) n r
+    unfolding inOrder onSide keyOf key
+    sound-checked r x =
+        let here = in-use s n r (x .inside) in
+        let mate : look K s n (look K s n r .partner) ≡ K .rowAt s (K .rowAt s r .partner) = ap (λ (e : Event P). look K s n (e .partner)) here ∙ in-use s n (K .rowAt s r .partner) (x .partner) in
+        record {
+          paired = record { own = x .inside; other = rw (ap (λ (e : Event P). e .partner) here) (x .partner); back = ap (λ (e : Event P). e .partner) mate ∙ x .paired };
+          side = ap₂ (λ (e f : Event P). onSide C (key e (f .point))) here mate ∙ x .ordered;
+          fit = ap (λ (e : Event P). C .fit (e .point)) here ∙ x .fit;
+        }
+
+    pub good-checked : n ≤ K .size s → ((r : ℕ) → r < n → Checked.Sound C (K .rowAt s) n r) → Good C K s n
+    good-checked room h = record { fits = room; sound = λ r l. sound-checked r (h r l) }
+
+-- ---- a record stored over one alike
+
+module _ {P : Type 0} (C : Coordinates P) {row row' : ℕ → Event P} (f : (j : ℕ) → Face (row' j) (row j)) where
+  key-alike : (r : ℕ) → onSide C (keyOf row' r) ≡ onSide C (keyOf row r)
+  unfolding onSide keyOf key
+  key-alike r = rw (f r .left, f r .point, ap (λ k. row' k .point) (f r .partner) ∙ f (row r .partner) .point)
+
+  sound-alike : {n : ℕ} (r : ℕ) → Sound C row n r → Sound C row' n r
+  sound-alike r h =
+      let p = h .paired in
+      record {
+        paired = record { own = p .own; other = rw (f r .partner) (p .other); back = ap (λ k. row' k .partner) (f r .partner) ∙ f (row r .partner) .partner ∙ p .back };
+        side = key-alike r ∙ h .side;
+        fit = ap (C .fit) (f r .point) ∙ h .fit;
+      }
+
+module _ {P S : Type 0} {C : Coordinates P} {K : Store P S} (M : MoveLaws C) (st : Stored K) (bl : Blanks K) where
+  pub good-put : (s : S) (used i : ℕ) (e : Event P) → Good C K s used → Face e (look K s used i) → Good C K (K .store s i e) used
+  good-put s used i e g f =
+      record { fits = rw (st .size-store s i e) (g .fits); sound = λ r l. sound-alike C (face-store st s used i e (g .fits) f) r (g .sound r l) }
+
+  -- ---- a division
+
+  pub left-in-use : (s : S) (used i : ℕ) → look K s used i .left ≡ true → i < used
+  unfolding look
+  left-in-use s used i h = go (ltb i used) refl h
+    where
+      go : (b : Bool) → ltb i used ≡ b → cond b (K .rowAt s i) (K .blank i) .left ≡ true → i < used
+      go true e k = ltb-true i used e
+      go false e k = absurd (true≢false (sym k ∙ bl .right i))
+
+  module _ (s : S) (used : ℕ) (g : Good C K s used) where
+    abbrev row : ℕ → Event P
+    row = look K s used
+
+    fine : (r : ℕ) → r < used → M .order .Fine (row r .point)
+    fine r l = M .fine (row r .point) (g .sound r l .fit)
+
+    -- the partner of a left end is a right end
+    right-end : (r : ℕ) → r < used → row r .left ≡ true → row (row r .partner) .left ≡ false
+    unfolding onSide keyOf key
+    right-end r l h = go (row o .left) refl
+      where
+        o : ℕ
+        o = row r .partner
+
+        own : Sound C row used r
+        own = g .sound r l
+
+        other : Sound C row used o
+        other = g .sound o (own .paired .other)
+
+        forth : ahead C (row r .point) (row o .point) ≡ true
+        forth = rw h at (own .side)
+
+        not-back : ahead C (row o .point) (row r .point) ≡ false
+        not-back = ahead-asym (M .order) (row r .point) (row o .point) (fine r l) (fine o (own .paired .other)) forth
+
+        go : (b : Bool) → row o .left ≡ b → b ≡ false
+        go false q = refl
+        go true q =
+            let back : ahead C (row o .point) (row (row o .partner) .point) ≡ true = rw q at (other .side) in
+            absurd (true≢false (sym back ∙ ap (λ k. ahead C (row o .point) (row k .point)) (own .paired .back) ∙ not-back))
+
+    segment : (i : ℕ) → row i .left ≡ true → Segment C row used i
+    segment i h =
+        let l = left-in-use s used i h in
+        let own = g .sound i l in
+        record { paired = own .paired; right = right-end i l h; fit = own .fit; fit-other = g .sound (row i .partner) (own .paired .other) .fit }
+
+  cut-fit : (l r c : P) → misses C l r c ≡ false → C .fit c ≡ true
+  unfolding misses
+  cut-fit l r c h =
+      let one = neither (same C c l) _ h in
+      let two = neither (same C c r) _ (one .1) in
+      let three = neither (C .lessX c l) _ (two .1) in
+      let four = neither (C .lessX r c) _ (three .1) in
+      not-false (C .fit c) (four .1)
+
+  -- every record after a division that is done
+  module _ {row row' : ℕ → Event P} {used i : ℕ} {c : P} {move : Bool} {d : Divided} (h : (r : ℕ) → r < used → Sound C row used r) (own : i < used)
+      (hit : C .fit c ≡ true) (w : Whole C row row' used i c move d) where
+    abbrev o : ℕ
+    o = row i .partner
+
+    at-i : Sound C row' (used + 2) i
+    unfolding linked
+    at-i = record { paired = w .still i (h i own .paired); side = w .on-sides .own; fit = ap (λ e. C .fit (e .point)) (w .records .own) ∙ h i own .fit }
+
+    at-o : Sound C row' (used + 2) o
+    unfolding linked
+    at-o =
+        let other = h o (h i own .paired .other) in
+        record { paired = w .still o (other .paired); side = w .on-sides .other; fit = ap (λ e. C .fit (e .point)) (w .records .other) ∙ other .fit }
+
+    at-right : Sound C row' (used + 2) used
+    unfolding newEnd
+    at-right = record { paired = w .new-right; side = w .on-sides .right-end; fit = ap (λ e. C .fit (e .point)) (w .records .right) ∙ hit }
+
+    at-left : Sound C row' (used + 2) (used + 1)
+    unfolding newEnd
+    at-left = record { paired = w .new-left; side = w .on-sides .left-end; fit = ap (λ e. C .fit (e .point)) (w .records .left) ∙ hit }
+
+    same-key : (r : ℕ) → row' r ≡ row r → row' (row r .partner) ≡ row (row r .partner) → keyOf row' r ≡ keyOf row r
+    unfolding keyOf
+    same-key r here there = ap₂ (λ (e f : Event P). key e (f .point)) here (ap (λ (e : Event P). row' (e .partner)) here ∙ there)
+
+    untouched : (r : ℕ) → Sound C row used r → row' r ≡ row r → row' (row r .partner) ≡ row (row r .partner) → Sound C row' (used + 2) r
+    untouched r x here there =
+        record { paired = w .still r (x .paired); side = ap (onSide C) (same-key r here there) ∙ x .side; fit = ap (λ e. C .fit (e .point)) here ∙ x .fit }
+
+    elsewhere : (r : ℕ) → r < used → r ≢ i → r ≢ o → Sound C row' (used + 2) r
+    elsewhere r l not-i not-o =
+        let p = h r l .paired in
+        let mate = row r .partner in
+        let mate-below = p .other in
+        let mate-not-i : mate ≢ i = λ e. not-o (sym (p .back) ∙ ap (λ k. row k .partner) e) in
+        let mate-not-o : mate ≢ o = λ e. not-i (sym (p .back) ∙ ap (λ k. row k .partner) e ∙ h i own .paired .back) in
+        untouched r (h r l) (w .records .rest r (λ e. omega arith) (λ e. omega arith) not-i not-o)
+        (w .records .rest mate (λ e. omega arith) (λ e. omega arith) mate-not-i mate-not-o)
+
+    all-sound : (r : ℕ) → r < used + 2 → Sound C row' (used + 2) r
+    all-sound r l = go (eqb r used) refl (eqb r (used + 1)) refl (eqb r i) refl (eqb r o) refl
+      where
+        go : (a : Bool) → eqb r used ≡ a → (b : Bool) → eqb r (used + 1) ≡ b → (x : Bool) → eqb r i ≡ x → (y : Bool) → eqb r o ≡ y → Sound C row' (used + 2) r
+        go true p b q x u y v = rw (eqb-true r used p) at-right
+        go false p true q x u y v = rw (eqb-true r (used + 1) q) at-left
+        go false p false q true u y v = rw (eqb-true r i u) at-i
+        go false p false q false u true v = rw (eqb-true r o v) at-o
+        go false p false q false u false v =
+            let not-right = eqb-false r used p in
+            let not-left = eqb-false r (used + 1) q in
+            elsewhere r (omega arith) (eqb-false r i u) (eqb-false r o v)
+
+  good-by : (s : S) (used more : ℕ) → more ≡ used + 2 → used + 2 ≤ K .size s → ((r : ℕ) → r < used + 2 → Sound C (look K s more) (used + 2) r) → Good C K s more
+  good-by s used more e f h = record { fits = rw e f; sound = λ r l. subst (λ n. Sound C (look K s more) n r) (sym e) (h r (subst (λ n. r < n) e l)) }
+
+  good-divided : (s : S) (used i : ℕ) (p : P) → Good C K s used → (d : Divided) → divide C K s used i p .answer ≡ Done d
+      → Good C K (divide C K s used i p .store) (divide C K s used i p .used)
+  good-divided s used i p g d h =
+      let ok = passed C K s used i p d h in
+      let w = whole M st s used i p d h (segment s used g i (ok .left)) in
+      let room = ok .free in
+      let size = same-size C K s used i p st in
+      let hit = cut-fit (look K s used i .point) (look K s used (look K s used i .partner) .point) (moved C (look K s used i .point) p) (ok .hits) in
+      good-by _ used _ (used-after C K s used i p d h) (rw size (omega arith)) (all-sound (g .sound) (left-in-use s used i (ok .left)) hit w)
+
+  pub good-cut : (s : S) (used i : ℕ) (p : P) → Good C K s used → Good C K (cut C K s used i p .store) (cut C K s used i p .used)
+  unfolding cut
+  good-cut s used i p g = go (divide C K s used i p .answer) refl
+    where
+      a : After S
+      a = divide C K s used i p
+
+      go : (x : Division) → a .answer ≡ x → Good C K (a .store) (a .used)
+      go (Done d) e = good-divided s used i p g d e
+      go (Refused r) e =
+          let k = as-lent C K s used i p r e in
+          rw (k .store, k .used) g
+
+  pub closed : Closed C K (Good C K) (λ r. Unit {0})
+  closed = record { fits = λ s used g. g .fits; put = λ s used i e g n f. good-put s used i e g f; cuts = good-cut }
+
+  -- ---- the order on what is in use
+
+  module _ (s : S) (used : ℕ) (g : Good C K s used) where
+    pub valid : (r : ℕ) → r < used → Valid (M .order) (keyUsed K s used r)
+    unfolding keyUsed keyOf key
+    valid r l =
+        let own = g .sound r l in
+        record { placed = record { point = fine s used g r l; mate = fine s used g (look K s used r .partner) (own .paired .other) }; side = own .side }

@@ -1,0 +1,22 @@
+-- Laws of the order of loading.
+pub mod Renamings
+pub mod Scan
+pub mod Twins
+pub mod Cuts
+pub mod Meetings
+pub mod Places
+pub mod Turns
+pub mod Walk
+pub mod Good
+pub mod Farthest
+pub mod Told
+pub mod Runs
+pub mod Permuted
+pub mod Loaded
+pub mod Checked
+pub mod Started
+pub mod Unused
+pub mod Order
+pub mod Calls
+pub mod AtBinary64
+pub mod Examples

@@ -1,0 +1,2 @@
+-- How the scans come to what they tell.
+pub mod Scans

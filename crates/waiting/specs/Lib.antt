@@ -1,0 +1,2 @@
+-- The waiting events.
+pub mod Waiting
