@@ -1,0 +1,58 @@
+// The lowest record of a list that has a flaw.
+ghost use mathlib.Core.Path.{_≡_};
+ghost use Prim.Native.Nat.{min};
+ghost use Rattle.events.specs.Pool.{pool};
+ghost use Rattle.acceptance.specs.OnPool.{toldFlaw};
+ghost use Rattle.acceptance.specs.Lowest.{toldAlso};
+use crate::flaws::Flaw;
+use crate::flaws::is_flawed;
+use crate::flaws::number_of;
+use checks::Check;
+use refusals::Refusal;
+
+fn lower(a: u64, b: u64) -> u64
+    ensures { λ r. ⌜ r ≡ min a b ⌝ }
+{
+    if a < b {
+        return a;
+    }
+    b
+}
+
+// The same check with one more record looked at.
+fn told_also(told: Check, number: u64, r: u32, struck: bool) -> Check
+    ensures { λ x. ⌜ x ≡ toldAlso told number r struck ⌝ }
+{
+    if struck {
+        let place = r as u64;
+        return match told {
+            Check::Passed => Check::Refused(Refusal { number, place }),
+            Check::Refused(least) => Check::Refused(Refusal {
+                number,
+                place: lower(place, least.place),
+            }),
+        };
+    }
+    told
+}
+
+// Refused at the lowest record with the flaw.
+pub fn check_flaw(
+    points: &[[f64; 2]],
+    marks: &[[u32; 12]],
+    seen: &[u32],
+    flaw: Flaw,
+    list: &[u32],
+) -> Check
+    ensures { λ r. ⌜ r ≡ toldFlaw (pool (now (points .entry)) (now (marks .entry))) (now (seen .entry)) (now (list .entry)) flaw ⌝ }
+{
+    let number = number_of(flaw);
+    let mut told = Check::Passed;
+    let mut i = list.len();
+    while i > 0 {
+        i -= 1;
+        let r = list[i];
+        told = told_also(told, number, r, is_flawed(points, marks, seen, flaw, r));
+    }
+    told
+}

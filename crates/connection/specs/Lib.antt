@@ -1,0 +1,3 @@
+-- Connection as a call on lent arrays.
+pub mod Connection
+pub mod Steps

@@ -1,0 +1,2 @@
+-- Laws of contours and holes in the lent arrays.
+pub mod Holes

@@ -1,0 +1,2 @@
+-- The holes of every contour in the lent arrays.
+pub mod Holes

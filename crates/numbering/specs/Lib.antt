@@ -1,0 +1,2 @@
+-- Contour numbers written in the pool.
+pub mod Numbering

@@ -1,0 +1,16 @@
+-- Outside the list nothing is set.
+use borrow.Author.Needs.{needs}
+use mathlib.Core.Path.{sym}
+use lib.Seq.{set-out}
+use Rattle.positions.proofs.places.put.Statement.{statement}
+use Rattle.positions.proofs.places.put.Tie as tie
+
+pub put-spec : {M : Type 1} → statement M
+put-spec =
+    tie.close
+    (tie.spec
+    (λ c. search needs)
+    (λ c. search needs)
+    (λ c. search needs)
+    (λ c. search needs)
+    (λ c. sym (set-out _ _ _ (c .if1 .left))))

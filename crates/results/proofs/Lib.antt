@@ -1,0 +1,2 @@
+-- Counting the members of a list that a test holds of.
+pub mod Counted

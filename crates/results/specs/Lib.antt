@@ -1,0 +1,2 @@
+-- The records of the result.
+pub mod Edge

@@ -1,0 +1,3 @@
+-- Laws of the search round a point.
+pub mod Found
+pub mod Round

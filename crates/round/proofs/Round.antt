@@ -1,0 +1,164 @@
+-- Each function of the search against its part of the definition.
+use mathlib.Core.Path.{_≡_, refl, sym, _∙_}
+use mathlib.Core.Bool.{Bool, true, false, not, _&&_, cond, Bool·beq}
+use mathlib.Core.List.{List, _∷_}
+use Prim.Native.Nat.{ℕ, zero, suc, _+_, _-_, _≤_, _<_}
+use native.Mathlib.Numerals.{add-one}
+use native.Mathlib.Nat.{sub-zero}
+use native.Mathlib.Omega.{arith}
+use lib.ListN.{length, getD, List·getD-eq-default}
+use Rattle.numbers.specs.declared.Coordinate.{Coordinate}
+use Rattle.events.specs.Coordinates.{same}
+use Rattle.events.specs.Binary64.{binary64}
+use Rattle.contours.specs.Result.{keep}
+use Rattle.contours.specs.Round.{up, down, isOpen, seek, rights, lefts, tries}
+use Rattle.rows.specs.declared.End.{End}
+use Rattle.rows.specs.Rows.{Rows, size, pointAt, endAt, tableRow, rowOf}
+use Rattle.rows.proofs.Lists.{getD-any}
+use Rattle.round.specs.Round.{found, markIn, nextPos, fitting, rightEnds, leftEnds, rightsFrom, leftsFrom, fromLeft, fromRight}
+use Rattle.round.proofs.Found.{in-first, in-next, in-last}
+
+-- ---- one mark
+
+pub mark-in : (ms : List ℕ) (i : ℕ) → i < length ms → getD ms i 0 ≡ markIn ms i
+unfolding markIn
+mark-in ms i h = getD-any ms i 0 1 h
+
+pub mark-out : (ms : List ℕ) (i : ℕ) → length ms ≤ i → 1 ≡ markIn ms i
+unfolding markIn
+mark-out ms i h = sym (List·getD-eq-default ms 1 h)
+
+pub open-no : (m : ℕ) → (m ≡ 0 → ⊥) → isOpen m ≡ false
+unfolding isOpen
+open-no zero h = absurd (h refl)
+open-no (suc m) h = refl
+
+pub open-yes : (m : ℕ) → m ≡ 0 → isOpen m ≡ true
+unfolding isOpen
+open-yes m h = rw h
+
+-- ---- one end
+
+module _ (t : Rows) (ms : List ℕ) (p : Coordinate) (l : Bool) (i m : ℕ) (e : m ≡ markIn ms i) where
+  pub fit-shut : (m ≡ 0 → ⊥) → false ≡ fitting t ms p l i
+  unfolding fitting
+  fit-shut h = rw (← e, open-no m h)
+
+  module _ (h : m ≡ 0) (r : End) (g : r ≡ endAt t i) where
+    pub fit-side : Bool·beq (r .left) l ≡ false → false ≡ fitting t ms p l i
+    unfolding fitting
+    fit-side z = rw (← e, open-yes m h, ← g, z)
+
+    pub fit-same : Bool·beq (r .left) l ≡ true → (q : Coordinate) (b : Bool) → q ≡ pointAt t i → b ≡ same binary64 p q → b ≡ fitting t ms p l i
+    unfolding fitting
+    fit-same z q b k s = rw (← e, open-yes m h, ← g, z, ← k) s
+
+-- ---- runs of positions
+
+module _ (t : Rows) (ms : List ℕ) (p : Coordinate) where
+  right-step : (i k : ℕ) → rightsFrom t ms p i (suc k) ≡ cond (fitting t ms p false i) i (rightsFrom t ms p (suc i) k)
+  unfolding rightsFrom rights keep up seek found fitting markIn tableRow rowOf
+  right-step i k = go (isOpen (getD ms i 1)) (endAt t i .left) (same binary64 p (pointAt t i)) refl
+    where
+      rest : List ℕ
+      rest = keep (λ j. same binary64 p (pointAt t j) && not (endAt t j .left)) (up (suc i) k)
+
+      go : (o l s : Bool) → isOpen (getD ms i 1) ≡ o
+          → found (length ms) (seek ms (cond (s && not l) (i ∷ rest) rest)) ≡ cond (cond o (cond (Bool·beq l false) s false) false) i (found (length ms) (seek ms rest))
+      go true true true e = refl
+      go true true false e = refl
+      go true false true e = rw e
+      go true false false e = refl
+      go false true true e = refl
+      go false true false e = refl
+      go false false true e = rw e
+      go false false false e = refl
+
+  left-step : (i k : ℕ) → leftsFrom t ms p i (suc k) ≡ cond (fitting t ms p true (i + k)) (i + k) (leftsFrom t ms p i k)
+  unfolding leftsFrom lefts keep down seek found fitting markIn tableRow rowOf
+  left-step i k = go (isOpen (getD ms (i + k) 1)) (endAt t (i + k) .left) (same binary64 p (pointAt t (i + k))) refl
+    where
+      rest : List ℕ
+      rest = keep (λ j. same binary64 p (pointAt t j) && endAt t j .left) (down i k)
+
+      go : (o l s : Bool) → isOpen (getD ms (i + k) 1) ≡ o
+          → found (length ms) (seek ms (cond (s && l) ((i + k) ∷ rest) rest)) ≡ cond (cond o (cond (Bool·beq l true) s false) false) (i + k) (found (length ms) (seek ms rest))
+      go true true true e = rw e
+      go true true false e = refl
+      go true false true e = refl
+      go true false false e = refl
+      go false true true e = rw e
+      go false true false e = refl
+      go false false true e = refl
+      go false false false e = refl
+
+  up-more : (j e : ℕ) → j < e → rightsFrom t ms p j (e - j) ≡ cond (fitting t ms p false j) j (rightsFrom t ms p (j + 1) (e - (j + 1)))
+  up-more j e h = let q : e - j ≡ suc (e - (j + 1)) = omega arith in rw q (right-step j (e - (j + 1)) ∙ rw add-one)
+
+  pub up-hit : (j e u : ℕ) → j < e → rightsFrom t ms p j (e - j) ≡ u → fitting t ms p false j ≡ true → j ≡ u
+  up-hit j e u h v s = rw (up-more j e h, s) at v
+
+  pub up-on : (j e u : ℕ) → j < e → rightsFrom t ms p j (e - j) ≡ u → fitting t ms p false j ≡ false → rightsFrom t ms p (j + 1) (e - (j + 1)) ≡ u
+  up-on j e u h v s = rw (up-more j e h, s) at v
+
+  pub up-end : (j e u : ℕ) → e ≤ j → rightsFrom t ms p j (e - j) ≡ u → length ms ≡ u
+  unfolding rightsFrom rights keep up seek found
+  up-end j e u h v = let q : e - j ≡ 0 = omega arith in rw q at v
+
+  down-more : (i j : ℕ) → i < j → leftsFrom t ms p i (j - i) ≡ cond (fitting t ms p true (j - 1)) (j - 1) (leftsFrom t ms p i (j - 1 - i))
+  down-more i j h =
+      let q : j - i ≡ suc (j - 1 - i) = omega arith in
+      let r : i + (j - 1 - i) ≡ j - 1 = omega arith in
+      rw q (left-step i (j - 1 - i) ∙ rw r)
+
+  pub down-hit : (i j u : ℕ) → i < j → leftsFrom t ms p i (j - i) ≡ u → fitting t ms p true (j - 1) ≡ true → j - 1 ≡ u
+  down-hit i j u h v s = rw (down-more i j h, s) at v
+
+  pub down-on : (i j u : ℕ) → i < j → leftsFrom t ms p i (j - i) ≡ u → fitting t ms p true (j - 1) ≡ false → leftsFrom t ms p i (j - 1 - i) ≡ u
+  down-on i j u h v s = rw (down-more i j h, s) at v
+
+  pub down-end : (i j u : ℕ) → j ≤ i → leftsFrom t ms p i (j - i) ≡ u → length ms ≡ u
+  unfolding leftsFrom lefts keep down seek found
+  down-end i j u h v = let q : j - i ≡ 0 = omega arith in rw q at v
+
+  -- ---- round the point, from q
+
+  module _ (q a : ℕ) where
+    module _ (e : a ≡ leftsFrom t ms p 0 (q - 0)) where
+      pub left-1 : a < length ms → a ≡ fromLeft t ms p q
+      unfolding fromLeft leftsFrom
+      left-1 h = in-first ms (leftEnds t ms p 0 q) (rightEnds t ms p 0 (size t)) (leftEnds t ms p (q + 1) (size t - (q + 1))) a (rw sub-zero at e) h
+
+      module _ (h : length ms ≤ a) (b : ℕ) (f : b ≡ rightsFrom t ms p 0 (size t - 0)) where
+        pub left-2 : b < length ms → b ≡ fromLeft t ms p q
+        unfolding fromLeft leftsFrom rightsFrom
+        left-2 g = in-next ms _ _ _ a (rw sub-zero at e) h b (rw sub-zero at f) g
+
+        pub left-3 : length ms ≤ b → (r : ℕ) → r ≡ leftsFrom t ms p (q + 1) (size t - (q + 1)) → r ≡ fromLeft t ms p q
+        unfolding fromLeft leftsFrom rightsFrom
+        left-3 g r k = in-last ms _ _ _ a (rw sub-zero at e) h b (rw sub-zero at f) g r k
+
+    module _ (e : a ≡ rightsFrom t ms p (q + 1) (size t - (q + 1))) where
+      pub right-1 : a < length ms → a ≡ fromRight t ms p q
+      unfolding fromRight rightsFrom
+      right-1 h = in-first ms (rightEnds t ms p (q + 1) (size t - (q + 1))) (leftEnds t ms p 0 (size t)) (rightEnds t ms p 0 q) a e h
+
+      module _ (h : length ms ≤ a) (b : ℕ) (f : b ≡ leftsFrom t ms p 0 (size t - 0)) where
+        pub right-2 : b < length ms → b ≡ fromRight t ms p q
+        unfolding fromRight leftsFrom rightsFrom
+        right-2 g = in-next ms _ _ _ a e h b (rw sub-zero at f) g
+
+        pub right-3 : length ms ≤ b → (r : ℕ) → r ≡ rightsFrom t ms p 0 (q - 0) → r ≡ fromRight t ms p q
+        unfolding fromRight leftsFrom rightsFrom
+        right-3 g r k = in-last ms _ _ _ a e h b (rw sub-zero at f) g r (rw sub-zero at k)
+
+-- ---- the next position
+
+module _ (t : Rows) (ms : List ℕ) (q : ℕ) (p : Coordinate) (a : p ≡ pointAt t q) (e : End) (b : e ≡ endAt t q) where
+  pub next-left : e .left ≡ true → (r : ℕ) → r ≡ fromLeft t ms p q → r ≡ nextPos t ms q
+  unfolding nextPos tries tableRow rowOf fromLeft
+  next-left c r d = rw (← b, c, ← a) d
+
+  pub next-right : e .left ≡ false → (r : ℕ) → r ≡ fromRight t ms p q → r ≡ nextPos t ms q
+  unfolding nextPos tries tableRow rowOf fromRight
+  next-right c r d = rw (← b, c, ← a) d

@@ -1,0 +1,2 @@
+-- The table of result events in two lent arrays.
+pub mod Rows

@@ -1,0 +1,3 @@
+-- Laws of all contours in the lent arrays.
+pub mod Steps
+pub mod Starts

@@ -1,0 +1,3 @@
+-- All contours in the lent arrays.
+pub mod Starts
+pub mod Steps

@@ -1,0 +1,3 @@
+-- The table of result events in lent arrays.
+pub mod Tabulation
+pub mod Steps

@@ -1,0 +1,2 @@
+-- Laws of the contours in the lent arrays.
+pub mod Tracing

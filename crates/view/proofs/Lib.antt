@@ -1,0 +1,2 @@
+-- What a part shows.
+pub mod Parts

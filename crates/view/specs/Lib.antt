@@ -1,0 +1,2 @@
+-- A contour's part of the lent points.
+pub mod View

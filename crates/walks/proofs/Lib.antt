@@ -1,0 +1,2 @@
+-- Laws of one contour in the lent arrays.
+pub mod Walks

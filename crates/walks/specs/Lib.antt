@@ -1,0 +1,2 @@
+-- One contour in the lent arrays.
+pub mod Walks

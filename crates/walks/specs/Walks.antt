@@ -1,0 +1,100 @@
+-- One contour (`contours.specs.Walk`) over the table in lent arrays: the marks after it, its corners in the lent points,
+-- where they end, and whether it is open.
+-- A corner beyond the lent points is not stored; all places but those of the corners stay as lent.
+use mathlib.Core.Path.{_≡_}
+use mathlib.Core.Bool.{Bool, not, cond}
+use mathlib.Core.Option.{Option, none, some}
+use mathlib.Core.List.{List, map}
+use Prim.Native.Nat.{ℕ, suc, _+_}
+use lib.ListN.{length, set}
+use lib.Seq.{sets}
+use lib.Ieee.{Float}
+use Rattle.numbers.specs.declared.Coordinate.{Coordinate}
+use Rattle.events.specs.Coordinates.{same}
+use Rattle.events.specs.Binary64.{binary64}
+use Rattle.contours.specs.Round.{seek, tries}
+use Rattle.contours.specs.Walk.{marks, walk, corners}
+use Rattle.contours.specs.Outline.{final, closes}
+use Rattle.rows.specs.Rows.{Rows, size, pointAt, endAt, pointCode, tableRow}
+use Rattle.walks.specs.declared.Walk.{Walk}
+
+-- what a walk leaves and tells
+pub record Toured : Type 0 where
+  pub walked : List ℕ
+  pub corners : List (List Float)
+  pub told : Walk
+
+abbrev pub toured : List ℕ → List (List Float) → Walk → Toured
+toured m o w = record { walked = m; corners = o; told = w }
+
+abbrev pub told : ℕ → Bool → Walk
+told e b = record { end = e; unclosed = b }
+
+module _ (t : Rows) where
+  -- the trail of contour c from i, the corners of a trail, as the definition has them and as the array holds them, and the marks after it
+  unfoldable pub trailFrom : ℕ → ℕ → List ℕ → List ℕ
+  trailFrom c i ms = walk (same binary64) (size t) (tableRow t) (size t) (tableRow t i .point) c ms i
+
+  unfoldable pub cornersOf : List ℕ → List (List Float)
+  cornersOf r = map pointCode (corners (same binary64) (size t) (tableRow t) r)
+
+  unfoldable pub unclosedTrail : List ℕ → Bool
+  unclosedTrail r = not (closes (same binary64) (corners (same binary64) (size t) (tableRow t) r))
+
+  unfoldable pub marksOf : ℕ → List ℕ → List ℕ → List ℕ
+  marksOf c ms r = marks (same binary64) (size t) (tableRow t) c ms r
+
+  -- the contour with this trail, its corners from `first` on
+  unfoldable pub walkedAlong : ℕ → ℕ → List ℕ → List (List Float) → List ℕ → Toured
+  walkedAlong c first ms out r = toured (marksOf c ms r) (sets out first (cornersOf r)) (told (first + length (cornersOf r)) (unclosedTrail r))
+
+  unfoldable pub walkedFrom : ℕ → ℕ → ℕ → List ℕ → List (List Float) → Toured
+  walkedFrom c i first ms out = walkedAlong c first ms out (trailFrom c i ms)
+
+-- ---- its parts
+
+-- what edges leave: where their corners end, and the other end of the last
+pub record Trip : Type 0 where
+  pub walked : List ℕ
+  pub corners : List (List Float)
+  pub end : ℕ
+  pub last : ℕ
+
+abbrev pub trip : List ℕ → List (List Float) → ℕ → ℕ → Trip
+trip m o e l = record { walked = m; corners = o; end = e; last = l }
+
+module _ (t : Rows) where
+  abbrev pub otherOf : ℕ → ℕ
+  otherOf i = endAt t i .other
+
+  -- the corner after the edge from i
+  unfoldable pub cornerAfter : ℕ → List Float
+  cornerAfter i = pointCode (pointAt t (otherOf i))
+
+  -- the edge from i, whose other end is q
+  unfoldable pub marked : ℕ → List ℕ → ℕ → ℕ → List ℕ
+  marked c ms i q = set (set ms i (suc c)) q (suc c)
+
+  module _ (home : Coordinate) where
+    -- after an end l, the edges of a trail, the first corner behind them stored at e
+    unfoldable pub edgesAlong : ℕ → List ℕ → List (List Float) → ℕ → ℕ → List ℕ → Trip
+    edgesAlong c ms out e l r = trip (marksOf t c ms r) (sets out e (map cornerAfter r)) (e + length r) (final l (map otherOf r))
+
+    -- at most k edges from i on
+    unfoldable pub edgesFrom : ℕ → ℕ → List ℕ → List (List Float) → ℕ → ℕ → ℕ → Trip
+    edgesFrom c k ms out e l i = edgesAlong c ms out e l (walk (same binary64) (size t) (tableRow t) k home c ms i)
+
+    -- a walk goes on to a position that is found, unless it is home; m for nowhere
+    unfoldable pub headTo : ℕ → Option ℕ → ℕ
+    headTo m none = m
+    headTo m (some j) = cond (same binary64 home (pointAt t j)) m j
+
+    -- from the end at q
+    unfoldable pub heading : List ℕ → ℕ → ℕ
+    heading ms q = headTo (length ms) (seek ms (tries (same binary64) (size t) (tableRow t) q))
+
+    -- one edge walked from i to q, its corner stored at e: the marks and points after it, and where the walk goes on
+    pub record Stepped (c : ℕ) (ms : List ℕ) (out : List (List Float)) (i q e : ℕ) (ms′ : List ℕ) (out′ : List (List Float)) (j : ℕ) : Type 0 where
+      pub walked : ms′ ≡ marked c ms i q
+      pub corners : out′ ≡ set out e (pointCode (pointAt t q))
+      pub next : j ≡ heading ms′ q
