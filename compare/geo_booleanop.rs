@@ -9,11 +9,13 @@ pub mod boolean {
     pub mod leaves {
         pub use super::compare_segments::compare_segments;
         pub use super::compute_fields::compute_fields;
+        pub use super::connect_edges::{connect_edges, Contour};
         pub use super::divide_segment::divide_segment;
         pub use super::helper::NextAfter;
         pub use super::possible_intersection::possible_intersection;
         pub use super::segment_intersection::{intersection, LineIntersection};
         pub use super::signed_area::signed_area;
+        pub use super::subdivide_segments::subdivide;
         pub use super::sweep_event::{EdgeType, ResultTransition, SweepEvent};
     }
 }

@@ -14,6 +14,7 @@
 #ifndef BEZORIKA_H
 #define BEZORIKA_H
 
+#include <stddef.h>
 #include <stdint.h>
 
 #ifdef __cplusplus
@@ -47,6 +48,58 @@ enum { BEZORIKA_NONE = 0, BEZORIKA_POINT = 1, BEZORIKA_OVERLAP = 2, BEZORIKA_LOS
 uint64_t bezorika_crossing(double ax, double ay, double bx, double by,
                            double cx, double cy, double dx, double dy,
                            uint64_t *kind, double corners[4], uint64_t *place);
+
+/* ---- The stages one by one (libstages.a, `rt staticlib stages`)
+
+   A pool is two arrays of one length, at most 4096: points[i] is the point of
+   record i, marks[i] its twelve numbers: left, subject (1 or 0), ring, partner,
+   has a below link, the below link, edge type, result transition, in-out,
+   other-in-out, has a contour number, the contour number. Each returns 0 or the
+   number of a refusal, whose place is then in *place; docs/PROMISES.md says
+   what each leaves in the arrays. */
+
+/* Edge i, from (ends[i][0], ends[i][1]) to (ends[i][2], ends[i][3]), with its
+   ring labels[i][0] and 1 in labels[i][1] for the subject, becomes records 2i
+   and 2i+1; *used is how many records there are.
+
+   Refuses by 1 (place 0 the edges, 1 the pool), 2 and 3 (place: the edge), all
+   arrays as lent. */
+uint64_t bezorika_load(const double (*ends)[4], size_t ends_length,
+                       const uint32_t (*labels)[2], size_t labels_length,
+                       double (*points)[2], size_t points_length,
+                       uint32_t (*marks)[12], size_t marks_length,
+                       uint32_t *used, uint64_t *place);
+
+/* The operations. */
+enum { BEZORIKA_INTERSECTION = 0, BEZORIKA_DIFFERENCE = 1, BEZORIKA_UNION = 2, BEZORIKA_XOR = 3 };
+
+/* The sweep of the first `loaded` records. taken has as many places as the pool,
+   and begins with the records taken, in their order. counts: events taken,
+   divisions made, records in use, and 1 if at some taking another waiting event
+   tied with the one taken.
+
+   Refuses by 1, 2 and 4 with all arrays as lent; by 6 and 7 with all done before
+   it, as counts tells. */
+uint64_t bezorika_subdivide(double (*points)[2], size_t points_length,
+                            uint32_t (*marks)[12], size_t marks_length,
+                            uint32_t loaded, uint32_t operation,
+                            uint32_t *taken, size_t taken_length,
+                            uint32_t counts[4], uint64_t *place);
+
+/* The contours of a list of records. contours[c]: its first corner, the end of
+   its corners, its parent + 1 or 0, its depth, its first hole, how many holes.
+   counts: contours, corners, holes, and contours whose first and last corners
+   differ.
+
+   Refuses by 1, 2, 4, 8 and 5 with all arrays as lent; by 9 with the contours
+   finished before it. */
+uint64_t bezorika_connect(const double (*points)[2], size_t points_length,
+                          uint32_t (*marks)[12], size_t marks_length,
+                          const uint32_t *list, size_t list_length,
+                          double (*corners)[2], size_t corners_length,
+                          uint32_t (*contours)[6], size_t contours_length,
+                          uint32_t *holes, size_t holes_length,
+                          uint32_t counts[4], uint64_t *place);
 
 #ifdef __cplusplus
 }

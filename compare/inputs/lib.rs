@@ -2,6 +2,7 @@
 pub mod families;
 pub mod random;
 pub mod records;
+pub mod sheets;
 
 pub type Point = [f64; 2];
 /// Two segments, from the first point to the second and from the third to the fourth.

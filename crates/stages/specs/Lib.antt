@@ -1,0 +1,2 @@
+-- What the stages tell a C caller.
+pub mod Told

@@ -1,0 +1,142 @@
+// What C and Rust call of the stages one by one: loading, the sweep, connection. include/bezorika.h says the same in plain words.
+// Each answers 0, or the number of a refusal; an output that a call does not name stays as lent.
+ghost use mathlib.Core.Path.{_≡_};
+ghost use Rattle.events.specs.Pool.{pool, flagNumber};
+ghost use Rattle.loading.specs.OnPool as Loading;
+ghost use Rattle.sweep.specs.OnPool.{subdividePool};
+ghost use Rattle.connection.specs.Connection.{lent, connectEdges};
+ghost use Rattle.stages.specs.Told as Told;
+ghost use Rattle.stages.specs.Told.{operationOf};
+use class::Operation;
+use connection::Connected;
+use connection::connect_edges;
+use loading::Loaded;
+use loading::load;
+use sweep::Swept;
+use sweep::subdivide;
+
+#[no_mangle]
+pub extern "C" fn bezorika_load(
+    ends: &[[f64; 4]],
+    labels: &[[u32; 2]],
+    points: &mut [[f64; 2]],
+    marks: &mut [[u32; 12]],
+    used: &mut u32,
+    place: &mut u64,
+) -> u64
+    ensures { λ r. ⌜ r ≡ Told.loadNumber (Loading.load (now (ends .entry)) (now (labels .entry)) (pool (now (points .entry)) (now (marks .entry))) .answer) ⌝ }
+    ensures { λ _. ⌜ pool (now (points .exit)) (now (marks .exit)) ≡ Loading.load (now (ends .entry)) (now (labels .entry)) (pool (now (points .entry)) (now (marks .entry))) .pool ⌝ }
+    ensures { λ _. ⌜ now (used .exit) ≡ Told.loadUsed (Loading.load (now (ends .entry)) (now (labels .entry)) (pool (now (points .entry)) (now (marks .entry))) .answer) (now (used .entry)) ⌝ }
+    ensures { λ _. ⌜ now (place .exit) ≡ Told.loadPlace (Loading.load (now (ends .entry)) (now (labels .entry)) (pool (now (points .entry)) (now (marks .entry))) .answer) (now (place .entry)) ⌝ }
+{
+    match load(ends, labels, points, marks) {
+        Loaded::Refused(why) => {
+            *place = why.place;
+            why.number
+        }
+        Loaded::Done(n) => {
+            *used = n;
+            0
+        }
+    }
+}
+
+fn operation_of(n: u32) -> Operation
+    ensures { λ r. ⌜ r ≡ operationOf n ⌝ }
+{
+    match n {
+        0 => Operation::Intersection,
+        1 => Operation::Difference,
+        2 => Operation::Union,
+        _ => Operation::Xor,
+    }
+}
+
+fn number_of_flag(b: bool) -> u32
+    ensures { λ r. ⌜ r ≡ flagNumber b ⌝ }
+{
+    if b { 1 } else { 0 }
+}
+
+fn tell_swept(s: Swept, counts: &mut [u32; 4])
+    ensures { λ _. ⌜ now (counts .exit) ≡ Told.sweepCounts s ⌝ }
+{
+    *counts = [s.taken, s.divisions, s.used, number_of_flag(s.tied)];
+}
+
+fn tell_end(outcome: sweep::Outcome, place: &mut u64) -> u64
+    ensures { λ r. ⌜ r ≡ Told.sweepNumber outcome ⌝ }
+    ensures { λ _. ⌜ now (place .exit) ≡ Told.sweepPlace outcome (now (place .entry)) ⌝ }
+{
+    match outcome {
+        sweep::Outcome::Done => 0,
+        sweep::Outcome::Refused(why) => {
+            *place = why.place;
+            why.number
+        }
+    }
+}
+
+#[no_mangle]
+pub extern "C" fn bezorika_subdivide(
+    points: &mut [[f64; 2]],
+    marks: &mut [[u32; 12]],
+    loaded: u32,
+    operation: u32,
+    taken: &mut [u32],
+    counts: &mut [u32; 4],
+    place: &mut u64,
+) -> u64
+    ensures { λ r. ⌜ r ≡ Told.sweepNumber (subdividePool (operationOf operation) (pool (now (points .entry)) (now (marks .entry))) loaded (now (taken .entry)) .answer .outcome) ⌝ }
+    ensures { λ _. ⌜ pool (now (points .exit)) (now (marks .exit)) ≡ subdividePool (operationOf operation) (pool (now (points .entry)) (now (marks .entry))) loaded (now (taken .entry)) .pool ⌝ }
+    ensures { λ _. ⌜ now (taken .exit) ≡ subdividePool (operationOf operation) (pool (now (points .entry)) (now (marks .entry))) loaded (now (taken .entry)) .taken ⌝ }
+    ensures { λ _. ⌜ now (counts .exit) ≡ Told.sweepCounts (subdividePool (operationOf operation) (pool (now (points .entry)) (now (marks .entry))) loaded (now (taken .entry)) .answer) ⌝ }
+    ensures { λ _. ⌜ now (place .exit) ≡ Told.sweepPlace (subdividePool (operationOf operation) (pool (now (points .entry)) (now (marks .entry))) loaded (now (taken .entry)) .answer .outcome) (now (place .entry)) ⌝ }
+{
+    let s = subdivide(points, marks, loaded, operation_of(operation), taken);
+    tell_swept(s, counts);
+    let outcome = s.outcome;
+    tell_end(outcome, place)
+}
+
+fn tell_connected(c: Connected, counts: &mut [u32; 4])
+    ensures { λ _. ⌜ now (counts .exit) ≡ Told.connectCounts c ⌝ }
+{
+    *counts = [c.contours, c.corners, c.holes, c.open];
+}
+
+fn tell_connection(outcome: connection::Outcome, place: &mut u64) -> u64
+    ensures { λ r. ⌜ r ≡ Told.connectNumber outcome ⌝ }
+    ensures { λ _. ⌜ now (place .exit) ≡ Told.connectPlace outcome (now (place .entry)) ⌝ }
+{
+    match outcome {
+        connection::Outcome::Done => 0,
+        connection::Outcome::Refused(why) => {
+            *place = why.place;
+            why.number
+        }
+    }
+}
+
+#[no_mangle]
+pub extern "C" fn bezorika_connect(
+    points: &[[f64; 2]],
+    marks: &mut [[u32; 12]],
+    list: &[u32],
+    corners: &mut [[f64; 2]],
+    contours: &mut [[u32; 6]],
+    holes: &mut [u32],
+    counts: &mut [u32; 4],
+    place: &mut u64,
+) -> u64
+    ensures { λ r. ⌜ r ≡ Told.connectNumber (connectEdges (pool (now (points .entry)) (now (marks .entry))) (now (list .entry)) (lent (now (corners .entry)) (now (contours .entry)) (now (holes .entry))) .answer .outcome) ⌝ }
+    ensures { λ _. ⌜ pool (now (points .entry)) (now (marks .exit)) ≡ connectEdges (pool (now (points .entry)) (now (marks .entry))) (now (list .entry)) (lent (now (corners .entry)) (now (contours .entry)) (now (holes .entry))) .pool ⌝ }
+    ensures { λ _. ⌜ lent (now (corners .exit)) (now (contours .exit)) (now (holes .exit)) ≡ connectEdges (pool (now (points .entry)) (now (marks .entry))) (now (list .entry)) (lent (now (corners .entry)) (now (contours .entry)) (now (holes .entry))) .outlines ⌝ }
+    ensures { λ _. ⌜ now (counts .exit) ≡ Told.connectCounts (connectEdges (pool (now (points .entry)) (now (marks .entry))) (now (list .entry)) (lent (now (corners .entry)) (now (contours .entry)) (now (holes .entry))) .answer) ⌝ }
+    ensures { λ _. ⌜ now (place .exit) ≡ Told.connectPlace (connectEdges (pool (now (points .entry)) (now (marks .entry))) (now (list .entry)) (lent (now (corners .entry)) (now (contours .entry)) (now (holes .entry))) .answer .outcome) (now (place .entry)) ⌝ }
+{
+    let c = connect_edges(points, marks, list, corners, contours, holes);
+    tell_connected(c, counts);
+    let outcome = c.outcome;
+    tell_connection(outcome, place)
+}
