@@ -49,7 +49,7 @@ module _ (base : ℕ) (two : 1 < base) (most : base ≤ 16) where
       ∙ ap Value (mod-eq-of-lt h)
 
 -- bytes that are there are a part of the list
-bytes-there : (s : List ℕ) (at k : ℕ) → at + k ≤ length s → bytes s at k ≡ take k (drop at s)
+pub bytes-there : (s : List ℕ) (at k : ℕ) → at + k ≤ length s → bytes s at k ≡ take k (drop at s)
 unfolding bytes
 bytes-there s at zero h = refl
 bytes-there s at (suc k) h =

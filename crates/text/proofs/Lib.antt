@@ -1,7 +1,9 @@
--- Laws of bytes and digits: `Back` is what the crates above cite.
+-- Laws of bytes and digits: `Back`, `Forth` and `Leading` are what the crates above cite.
 pub mod Stores
 pub mod Matching
 pub mod Writing
 pub mod Reading
 pub mod Patterns
 pub mod Back
+pub mod Forth
+pub mod Leading

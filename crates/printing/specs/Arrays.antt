@@ -1,0 +1,63 @@
+-- Contours in lent arrays. A contour's row: its first corner and the place after its last, its parent + 1 or 0, its depth, its first hole and how
+-- many it has. A part that is not within its array is shown empty.
+use mathlib.Core.Bool.{cond}
+use mathlib.Core.Option.{Option, none, some}
+use mathlib.Core.List.{List, [], _∷_, _++_, map}
+use Prim.Native.Nat.{ℕ, zero, suc, _+_, _-_}
+use lib.Dec.{ltb}
+use lib.ListN.{length, getD, take, drop}
+use lib.Ieee.{Float, nan, binary64, toBits}
+use Rattle.numbers.specs.declared.Coordinate.{Coordinate}
+use Rattle.contours.specs.Outline.{Outline}
+use Rattle.sheet.specs.declared.edges.Corner.{Corner}
+use Rattle.printing.specs.Printing.{Drawn, drawing}
+
+-- how many of the count elements from a place on are within an array
+unfoldable pub partLength : (length first count : ℕ) → ℕ
+partLength length first count = cond (ltb length (first + count)) 0 count
+
+unfoldable pub part : {A : Type 0} → List A → ℕ → ℕ → List A
+part l first count = take (partLength (length l) first count) (drop first l)
+
+unfoldable pub cornerOf : List Float → Corner
+cornerOf p = record { x = toBits binary64 (getD p 0 nan); y = toBits binary64 (getD p 1 nan) }
+
+unfoldable pub parentOf : ℕ → Option ℕ
+parentOf zero = none
+parentOf (suc p) = some p
+
+unfoldable pub drawnRow : List (List Float) → List ℕ → List ℕ → Drawn
+drawnRow corners holes row =
+    record {
+      parent = parentOf (getD row 2 0);
+      depth = getD row 3 0;
+      holes = part holes (getD row 4 0) (getD row 5 0);
+      corners = map cornerOf (part corners (getD row 0 0) (getD row 1 0 - getD row 0 0));
+    }
+
+-- the text of the first count contours
+unfoldable pub printedArrays : List (List Float) → List (List ℕ) → List ℕ → ℕ → List ℕ
+printedArrays corners contours holes count = drawing (map (drawnRow corners holes) (take count contours))
+
+-- ---- arrays as connection writes them: corners one after the other, and so holes
+
+unfoldable pub numberOf : Option ℕ → ℕ
+numberOf none = 0
+numberOf (some p) = suc p
+
+unfoldable pub rowsFrom : (corner hole : ℕ) → List (Outline Coordinate) → List (List ℕ)
+rowsFrom c h [] = []
+rowsFrom c h (o ∷ os) =
+    (c ∷ (c + length (o .corners)) ∷ numberOf (o .parent) ∷ o .depth ∷ h ∷ length (o .holes) ∷ [])
+    ∷ rowsFrom (c + length (o .corners)) (h + length (o .holes)) os
+
+unfoldable pub numbersOf : Coordinate → List Float
+numbersOf p = p .x ∷ p .y ∷ []
+
+unfoldable pub allCorners : List (Outline Coordinate) → List (List Float)
+allCorners [] = []
+allCorners (o ∷ os) = map numbersOf (o .corners) ++ allCorners os
+
+unfoldable pub allHoles : List (Outline Coordinate) → List ℕ
+allHoles [] = []
+allHoles (o ∷ os) = o .holes ++ allHoles os

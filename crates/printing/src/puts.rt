@@ -1,0 +1,46 @@
+// Words and numbers put one after the other. Each answers the place after what it put, whether it fitted or not.
+ghost use mathlib.Core.List.{List, _∷_, [], _++_};
+ghost use lib.Ieee.{binary64, toBits};
+ghost use Rattle.text.specs.Digits.{decimal, hex};
+ghost use Rattle.sheet.specs.Sheet.{countLine, numberBytes};
+ghost use Rattle.printing.specs.Put.{Put};
+use text::bits::bits_of;
+use text::digits::HEX_DIGITS;
+use text::digits::put_decimal;
+use text::digits::put_hex;
+use text::words::after;
+use text::words::put_word;
+
+// The largest place that can be told.
+const MOST: usize = usize::MAX;
+
+pub fn text(out: &mut [u8], at: usize, word: &[u8]) -> usize
+    ensures { λ r. ⌜ Put (now (out .entry)) at (now (word .entry)) (now (out .exit)) r ⌝ }
+{
+    put_word(out, at, word);
+    after(at, word.len(), MOST)
+}
+
+pub fn number(out: &mut [u8], at: usize, n: u64) -> usize
+    ensures { λ r. ⌜ Put (now (out .entry)) at (decimal n) (now (out .exit)) r ⌝ }
+{
+    let digits = put_decimal(out, at, n);
+    after(at, digits, MOST)
+}
+
+// A number by its bits.
+pub fn bits(out: &mut [u8], at: usize, x: f64) -> usize
+    ensures { λ r. ⌜ Put (now (out .entry)) at (hex (toBits binary64 x)) (now (out .exit)) r ⌝ }
+{
+    put_hex(out, at, bits_of(x));
+    after(at, HEX_DIGITS, MOST)
+}
+
+// A word, a number and the line feed.
+pub fn line(out: &mut [u8], at: usize, word: &[u8], n: u64) -> usize
+    ensures { λ r. ⌜ Put (now (out .entry)) at (countLine (now (word .entry)) n) (now (out .exit)) r ⌝ }
+{
+    let digits = text(out, at, word);
+    let end = number(out, digits, n);
+    text(out, end, b"\n")
+}
