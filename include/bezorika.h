@@ -101,6 +101,19 @@ uint64_t bezorika_connect(const double (*points)[2], size_t points_length,
                           uint32_t *holes, size_t holes_length,
                           uint32_t counts[4], uint64_t *place);
 
+/* ---- A sheet from bytes to bytes (liboverlay_entry.a, `rt staticlib overlay_entry`)
+
+   Reads a sheet from bytes and prints the map's text into out, no byte past
+   out_length, whatever the bytes are.
+
+   Returns 0: the text is the first *length bytes of out.
+   Returns the number of a refusal: its place is in *place and out is as lent.
+   10 and 1: *place is the line; 5, last of all: *place is how many bytes the
+   text takes, so a second call with as many succeeds. */
+uint64_t bezorika_overlay(const uint8_t *bytes, size_t bytes_length,
+                          uint8_t *out, size_t out_length,
+                          uint64_t *length, uint64_t *place);
+
 #ifdef __cplusplus
 }
 #endif

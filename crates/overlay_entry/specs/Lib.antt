@@ -1,0 +1,2 @@
+-- What overlay's work tells a C caller.
+pub mod Told

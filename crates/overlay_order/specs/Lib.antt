@@ -1,0 +1,2 @@
+-- The order of a sheet's edge lines.
+pub mod Lines

@@ -1,0 +1,2 @@
+-- Overlay's work: from the bytes of a sheet to the bytes of its contours.
+pub mod Overlay

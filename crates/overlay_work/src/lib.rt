@@ -1,0 +1,72 @@
+// Overlay's work (01, 'The sheet'): from the bytes of a sheet to the bytes of its contours.
+ghost use mathlib.Core.Path.{_≡_};
+ghost use Rattle.overlay_work.specs.Overlay.{left, put, answered, overlayEdges};
+ghost use Rattle.overlay_work.specs.Overlay as Spec;
+use class::Operation;
+use places::no_ends;
+use places::no_labels;
+use places::no_marks;
+use places::no_points;
+use places::none_taken;
+use printing::print_refusal;
+use refusals::Refusal;
+use sheet::Told;
+use sheet::read_sheet;
+use steps::load_edges;
+
+mod places;
+mod steps;
+
+pub enum Overlaid {
+    // The bytes of the text.
+    Printed(usize),
+    Refused(Refusal),
+}
+
+// The edges of a sheet, in a pool of their own.
+fn overlay_edges(
+    operation: Operation,
+    ends: &[[f64; 4]],
+    labels: &[[u32; 2]],
+    out: &mut [u8],
+) -> Overlaid
+    ensures { λ r. ⌜ left r (now (out .exit)) ≡ put (overlayEdges operation (now (ends .entry)) (now (labels .entry))) (now (out .entry)) ⌝ }
+{
+    let mut points = no_points();
+    let mut marks = no_marks();
+    let mut taken = none_taken();
+    load_edges(
+        operation,
+        ends,
+        labels,
+        &mut points,
+        &mut marks,
+        &mut taken,
+        out,
+    )
+}
+
+// Prints the contours of a sheet into the lent bytes, which stay as lent where it is refused.
+pub fn overlay(bytes: &[u8], out: &mut [u8]) -> Overlaid
+    ensures { λ r. ⌜ left r (now (out .exit)) ≡ Spec.overlay (now (bytes .entry)) (now (out .entry)) ⌝ }
+{
+    let mut ends = no_ends();
+    let mut labels = no_labels();
+    match read_sheet(bytes, &mut ends, &mut labels) {
+        Told::Refused(refusal) => Overlaid::Refused(refusal),
+        Told::Read(operation, subject, clip) => {
+            let n = subject as usize + clip as usize;
+            overlay_edges(operation, &ends[..n], &labels[..n], out)
+        }
+    }
+}
+
+// The same, and a refusal's line where it is refused: what the program prints.
+pub fn answer(bytes: &[u8], out: &mut [u8]) -> usize
+    ensures { λ r. ⌜ answered r (now (out .exit)) ≡ Spec.answer (now (bytes .entry)) (now (out .entry)) ⌝ }
+{
+    match overlay(bytes, out) {
+        Overlaid::Printed(n) => n,
+        Overlaid::Refused(refusal) => print_refusal(refusal, out),
+    }
+}

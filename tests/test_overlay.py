@@ -1,0 +1,133 @@
+"""The program `overlay`: sheets and what it prints. Expected answers are document 01's, or written by hand from it; the floor's map is the Rust's."""
+import os
+import struct
+import subprocess
+import unittest
+
+OVERLAY = ["tests/x86", "target/bin/overlay"]
+
+
+def bits(x):
+    return struct.pack(">d", x).hex()
+
+
+def edge(ring, *numbers):
+    return f"{ring} " + " ".join(map(bits, numbers))
+
+
+def box(ring, x, y, w, h):
+    corners = [(x, y), (x + w, y), (x + w, y + h), (x, y + h)]
+    return [edge(ring, *corners[i], *corners[(i + 1) % 4]) for i in range(4)]
+
+
+def sheet(operation, subject, clip):
+    lines = [f"operation {operation}", f"subject {len(subject)}", *subject, f"clip {len(clip)}", *clip]
+    return "".join(line + "\n" for line in lines)
+
+
+def overlay(text):
+    data = text if isinstance(text, bytes) else text.encode("latin-1")
+    run = subprocess.run(OVERLAY, input=data, capture_output=True, timeout=60)
+    assert run.stderr == b"", run.stderr
+    return run.stdout.decode("latin-1")
+
+
+def contour(parent, depth, holes, points):
+    return [f"parent {parent} depth {depth}", f"holes {len(holes)}", *map(str, holes), f"points {len(points)}"] + [
+        f"{bits(x)} {bits(y)}" for x, y in points
+    ]
+
+
+def printed(*contours):
+    return "".join(line + "\n" for line in [f"contours {len(contours)}", *sum(contours, [])])
+
+
+SQUARES = sheet("intersection", box(0, 0, 0, 2, 2), box(1, 1, 1, 2, 2))
+
+
+class Maps(unittest.TestCase):
+    def test_the_squares_of_01(self):
+        self.assertEqual(overlay(SQUARES), printed(contour("-", 0, [], [(1, 1), (2, 1), (2, 2), (1, 2), (1, 1)])))
+
+    def test_touching_squares(self):
+        first = [(0, 0), (1, 0), (1, 1), (0, 1), (0, 0)]
+        second = [(1, 1), (2, 1), (2, 2), (1, 2), (1, 1)]
+        text = sheet("union", box(0, 0, 0, 1, 1), box(1, 1, 1, 1, 1))
+        self.assertEqual(overlay(text), printed(contour("-", 0, [], first), contour("-", 0, [], second)))
+
+    def test_a_hole(self):
+        outer = [(0, 0), (9, 0), (9, 9), (0, 9), (0, 0)]
+        text = sheet("difference", box(0, 0, 0, 9, 9), box(1, 3, 3, 3, 3))
+        lines = overlay(text).splitlines()
+        self.assertEqual(lines[:5], ["contours 2", "parent - depth 0", "holes 1", "1", "points 5"])
+        self.assertEqual(lines[5:10], [f"{bits(x)} {bits(y)}" for x, y in outer])
+        self.assertEqual(lines[10:13], ["parent 0 depth 1", "holes 0", "points 5"])
+
+    def test_nothing(self):
+        self.assertEqual(overlay("operation xor\nsubject 0\nclip 0\n"), "contours 0\n")
+
+    def test_the_floor(self):
+        folder = "examples/floor"
+        for name in sorted(file[:-6] for file in os.listdir(folder) if file.endswith(".sheet")):
+            with open(f"{folder}/{name}.sheet") as given, open(f"{folder}/{name}.map") as wanted:
+                self.assertEqual(overlay(given.read()), wanted.read())
+
+
+class Refused(unittest.TestCase):
+    def told(self, text, number, place):
+        self.assertEqual(overlay(text), f"refused {number} at {place}\n", text if len(text) < 400 else text[:400])
+
+    def test_counts_that_pass_the_limit(self):
+        wall = edge(0, 0, 0, 1, 1)
+        self.told("operation xor\nsubject 257\n", 1, 2)
+        self.told("operation xor\nsubject 99999999999999999999999999999999\n", 1, 2)
+        self.told(sheet("xor", [wall] * 200, []).replace("clip 0", "clip 57"), 1, 203)
+        self.assertNotIn("refused 1 ", overlay(sheet("xor", [wall] * 256, [])))
+
+    def test_edges(self):
+        good = box(0, 0, 0, 1, 1)
+        for number in ("7ff8000000000000", "7ff0000000000000", "fff0000000000000", "4630000000000001", "c630000000000001"):
+            bad = f"0 {number} {bits(0)} {bits(1)} {bits(1)}"
+            self.told(sheet("xor", good + [bad], []), 2, 4)
+            self.told(sheet("xor", good, [bad]), 2, 4)
+        self.told(sheet("xor", good, [edge(1, 5, 5, 5, 5)]), 3, 4)
+        self.told(sheet("xor", good, [f"1 {bits(0.0)} {bits(5)} {bits(-0.0)} {bits(5)}"]), 3, 4)
+
+    def test_runs(self):
+        both = lambda ring, a, b, c, d: [edge(ring, a, b, c, d), edge(ring, c, d, a, b)]
+        self.assertTrue(overlay(sheet("xor", both(0, 3, 1, 2, 3), both(1, 3, 2, 1, 3))).startswith("refused 6 at "))
+        walls = [edge(0, 2, 2, 2, 0), edge(0, 3, 1, 2, 3), edge(0, 3, 2, 1, 3), edge(0, 3, 3, 0, 0)]
+        self.assertTrue(overlay(sheet("difference", walls, [])).startswith("refused 7 at "))
+        self.assertTrue(overlay(sheet("intersection", both(0, 0, 1, 3, 4), both(1, 1, 3, 2, 2))).startswith("refused 8 at "))
+        self.assertTrue(overlay(sheet("xor", both(0, 0, 5, 4, 2), both(1, 1, 2, 2, 4))).startswith("refused 9 at "))
+
+    def test_malformed(self):
+        lines = SQUARES.splitlines(keepends=True)
+
+        def changed(line, new):
+            return "".join(lines[: line - 1] + [new] + lines[line:])
+
+        wrong = {
+            1: ["", "\n", "operation all\n", "operation  xor\n", "Operation xor\n", "operation xor \n", " operation xor\n", "operation xor\r\n", "operation\txor\n"],
+            2: ["subject\n", "subject 04\n", "subject +4\n", "subject 4 \n", "subject four\n", "clip 4\n", "subject 4\0\n", "subject -1\n"],
+            3: [lines[2].replace("0 ", "00 ", 1), lines[2].replace("0 ", "4294967296 ", 1), lines[2].replace(" ", "  ", 1), lines[2][:-2] + "\n", lines[2][:-1] + "0\n", lines[2][:-1] + " \n", lines[3].replace("4", "A", 1), lines[2][:-1] + "\r\n", "\n"],
+            7: ["clip 3\n"[:4] + "\n", "subject 4\n", "clip 4 4\n"],
+        }
+        for line, texts in wrong.items():
+            for text in texts:
+                self.told(changed(line, text), 10, line)
+        self.told(changed(2, "subject 3\n"), 10, 6)
+        self.told(changed(2, "subject 5\n"), 10, 7)
+        self.told(changed(7, "clip 3\n"), 10, 11)
+        self.told(changed(7, "clip 5\n"), 10, 12)
+        self.told(SQUARES + "\n", 10, 12)
+        self.told(SQUARES + "x", 10, 12)
+        self.told(SQUARES[:-1], 10, 11)
+        self.told("", 10, 1)
+        self.told("\0" * 100, 10, 1)
+        for byte in (b"\n", b"0", b"\xff"):
+            self.told(byte * 1000000, 10, 1)
+
+
+if __name__ == "__main__":
+    unittest.main()
