@@ -1,6 +1,9 @@
-/* Bezorika's C entries: the calls of libentries.a (`rt staticlib entries`).
+/* Bezorika's C entries: two calls on numbers (libentries.a, `rt staticlib
+   entries`), the stages one by one, and a sheet from bytes to bytes; the
+   archives of these stand above each.
 
-   Every entry returns 0 when it answered, or the number of a refusal:
+   Every entry returns 0 when it answered, or the number of a refusal, whose
+   place is then in *place. The calls on numbers refuse by one alone:
 
        2   a number that was given is not finite (not-a-number or an infinity);
            *place says which, counted from 0 in the order of the arguments,
@@ -8,9 +11,10 @@
 
    An output that is not named below for a case is left as it was lent. The
    pointers must be valid and must not overlap. No entry keeps a pointer,
-   allocates, or touches anything but its outputs. Nothing checks this header
-   against the proved source: tests/entries.c includes it, links the archive
-   and runs every case. */
+   allocates, or touches anything but its outputs. Each length is the
+   number of elements that its pointer leads to. Nothing checks this header
+   against the proved source: tests/entries.c, tests/stages.c and
+   tests/overlay_entry.c include it, link the archives and run every case. */
 #ifndef BEZORIKA_H
 #define BEZORIKA_H
 
