@@ -16,32 +16,38 @@ use Rattle.events.specs.Pool.{Pool, stored}
 use Rattle.events.specs.Store.{Store}
 use Rattle.class.specs.declared.Operation.{Operation}
 use Rattle.checks.specs.Checks.{maxEvents}
-use Rattle.waiting.specs.Waiting.{first, rivalled, flagged, beforeUsed}
+use Rattle.waiting.specs.Waiting.{flagged}
 use Rattle.sweep.specs.declared.turn.Turn.{Turn}
 use Rattle.sweep.specs.declared.turn.Stop.{Stop}
 use Rattle.sweep.specs.declared.turn.Stop.the-variants.{Going, Ended, Refused}
 use Rattle.sweep.specs.State.{State, halt, takes, goOn}
 use Rattle.sweep.specs.Event.{turn}
-use Rattle.sweep.specs.Run.{isBefore, next, isTied, stepBy, step, run}
-use Rattle.sweep.specs.Turn.{state, endedTurn, takenTurn, isStopped, Fits, Does, Worked, Beyond}
-use Rattle.sweep.proofs.Flags.{flag-within, one-less}
+use Rattle.sweep.specs.Run.{next, isTied, stepBy, step, run}
+use Rattle.sweep.specs.Turn.{state, endedTurn, takenTurn, linedTurn, isStopped, Fits, Queues, Does, Worked, Beyond}
+use Rattle.sweep.proofs.Flags.{first-waits, flag-within, one-less}
+use Rattle.sweep.proofs.AtBinary64.{relined}
 
 -- ---- one step
 
-module _ (p : Pool) (w : List Bool) (status taken : List ℕ) (t : Turn) (op : Operation) (past : Coordinate → Bool) (n : Link) (is : n ≡ first (flagged w) (beforeUsed p (t .used)) (t .used)) where
+module _ (p : Pool) (w : List Bool) (status taken : List ℕ) (t : Turn) (op : Operation) (past : Coordinate → Bool) (n : Link) (is : n ≡ next binary64 stored (state p w (take (t .members) status) (take (t .count) taken) t)) where
   pub step-none : (r : Turn) → n ≡ None → r ≡ endedTurn t
       → state p w (take (r .members) status) (take (r .count) taken) r ≡ step binary64 stored plain op past (state p w (take (t .members) status) (take (t .count) taken) t)
-  unfolding step stepBy next isBefore beforeUsed halt endedTurn
+  unfolding step stepBy halt endedTurn
   step-none r h hr = rw (hr, ← is, h)
 
-  pub step-some : (e : ℕ) (rival : Bool) (u r : Turn) (p' : Pool) (w' : List Bool) (l' taken' : List ℕ) → n ≡ To e → rival ≡ rivalled (flagged w) (beforeUsed p (t .used)) e (t .used) → t .count < length taken
+  pub step-some : (e : ℕ) (rival : Bool) (u r : Turn) (p' : Pool) (w' : List Bool) (l' taken' : List ℕ) → n ≡ To e → rival ≡ isTied binary64 stored (state p w (take (t .members) status) (take (t .count) taken) t) e → t .count < length taken
       → u ≡ takenTurn t rival → w' ≡ set w e false → taken' ≡ set taken (t .count) e
       → Does (λ z. turn binary64 stored plain op past z e) p (take (u .members) status) u p' l' r → Worked u r
       → state p' w' l' (take (r .count) taken') r ≡ step binary64 stored plain op past (state p w (take (t .members) status) (take (t .count) taken) t)
-  unfolding step stepBy next isTied isBefore beforeUsed takes takenTurn
+  unfolding step stepBy takes takenTurn
   step-some e rival u r p' w' l' taken' h hr room hu hw ht d k =
       let more : take (t .count + 1) (set taken (t .count) e) ≡ take (t .count) taken ++ (e ∷ []) = rw add-one (take-suc-set taken (t .count) e room) in
       rw (k .count) (d .is w' (take (u .count) taken') ∙ rw (hu, hw, ht, more, ← is, h, ← hr))
+
+-- the event to be taken waits
+pub next-waits : {P S : Type 0} (C : Coordinates P) (K : Store P S) (s : State S) (e : ℕ) → next C K s ≡ To e → flagged (s .waits) e ≡ true
+unfolding next
+next-waits C K s e h = first-waits _ _ _ e h
 
 -- ---- the arrays' room for it
 
@@ -77,6 +83,30 @@ module _ (w : List Bool) (status taken : List ℕ) (t : Turn) (e : ℕ) (fits : 
       beyond-on =
           let count : r .count ≡ t .count + 1 = rw hu at (worked .count) in
           rw ht (record { more = omega arith; rest = drop-set-lt (r .count) taken (t .count) e (omega arith) })
+
+pub queue-room : (p : Pool) (w : List Bool) (queue : List ℕ) (t : Turn) → Queues p w queue t → (t .waiting - 1 ≤ length queue) × (length queue ≤ maxEvents)
+queue-room p w queue t q = (omega (arith, q .within), omega (arith, q .room))
+
+-- ---- how many wait is of the turn alone
+
+module _ (v r : Turn) (m : ℕ) (h : r ≡ linedTurn v m) where
+  pub does-lined : (f : State Pool → State Pool) (p p' : Pool) (l l' : List ℕ) (u : Turn) → Does f p l u p' (take (v .members) l') v → Does f p l u p' (take (r .members) l') r
+  unfolding linedTurn
+  does-lined f p p' l l' u d = rw h (record { is = d .is })
+
+  pub worked-lined : (u : Turn) → Worked u v → Worked u r
+  unfolding linedTurn
+  worked-lined u k = rw h (record { count = k .count; members = k .members })
+
+  pub queue-lined : (p : Pool) (w : List Bool) (from room : ℕ) (queue l : List ℕ) → take m queue ≡ relined p w from (v .used) room l → take (r .waiting) queue ≡ relined p w from (r .used) room l
+  unfolding linedTurn
+  queue-lined p w from room queue l e = rw h e
+
+  pub within-lined : (k : ℕ) → m ≤ k → r .waiting ≤ k
+  unfolding linedTurn
+  within-lined k e = rw h e
+
+-- ---- the end, and no change
 
 module _ (t r : Turn) (h : r ≡ endedTurn t) where
   pub fits-ended : (w : List Bool) (status taken : List ℕ) → Fits w status taken t → Fits w status taken r
@@ -136,9 +166,10 @@ module _ {P S : Type 0} (C : Coordinates P) (K : Store P S) (crossing : Crossing
       rw d (run-more (steps - k) s x (omega arith) (sym h ∙ f) e ∙ i)
 
 -- the arrays keep their lengths
-pub record Lengths (p₀ p : Pool) (w₀ w : List Bool) (l₀ l k₀ k : List ℕ) : Type 0 where
+pub record Lengths (p₀ p : Pool) (w₀ w : List Bool) (q₀ q l₀ l k₀ k : List ℕ) : Type 0 where
   pub points : length (p .points) ≡ length (p₀ .points)
   pub marks : length (p .marks) ≡ length (p₀ .marks)
   pub waits : length w ≡ length w₀
+  pub queue : length q ≡ length q₀
   pub status : length l ≡ length l₀
   pub taken : length k ≡ length k₀

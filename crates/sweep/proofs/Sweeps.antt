@@ -29,7 +29,7 @@ use Rattle.sweep.specs.State.{State, start}
 use Rattle.sweep.specs.Bounds.{rightmost, isPast, past}
 use Rattle.sweep.specs.Run.{run, subdivide, divisions}
 use Rattle.sweep.specs.OnPool.{After, after, sizes, accept, outcomeOf, answerOf, afterRun, asLent, afterChecks, subdividePool}
-use Rattle.sweep.specs.Turn.{state, startTurn, everywhere, Fits, Beyond}
+use Rattle.sweep.specs.Turn.{state, startTurn, linedTurn, everywhere, Fits, Beyond}
 use Rattle.sweep.proofs.Flags.{trues-all}
 use Rattle.sweep.proofs.Ends.{counted}
 
@@ -78,9 +78,20 @@ pub long-enough : {A : Type 0} (a : A) (l : List A) → l ≡ everywhere a → l
 unfolding everywhere
 long-enough a l e = rw (e, length-replicate)
 
-pub fits-at-start : (n loaded : ℕ) (w : List Bool) (status taken : List ℕ) (t : Turn) → n ≤ maxEvents → n ≡ length taken → w ≡ replicate n true → status ≡ everywhere 0 → t ≡ startTurn loaded → Fits w status taken t
-unfolding startTurn
-fits-at-start n loaded w status taken t few is hw hs ht =
+-- the flags of the pool's places, in an array of flags for every place that a pool can have
+pub enough-flags : (n : ℕ) (w : List Bool) → n ≤ maxEvents → w ≡ everywhere true → n ≤ length w
+enough-flags n w h e = rw (long-enough true w e) h
+
+pub all-flags : (p : Pool) (w : List Bool) → Sized (length (p .points)) (length (p .marks)) → w ≡ everywhere true → take (length (p .points)) w ≡ replicate (stored .size p) true
+all-flags p w s e = flags-at-start (length (p .points)) w (s .few) e ∙ ap (λ n. replicate n true) (places-are p s)
+
+-- the queue is filled before the run
+pub begun : (n waiting : ℕ) (t r : Turn) → r ≡ linedTurn t waiting → t ≡ startTurn n → r ≡ linedTurn (startTurn n) waiting
+begun n waiting t r h e = h ∙ ap (λ u. linedTurn u waiting) e
+
+pub fits-at-start : (n loaded waiting : ℕ) (w : List Bool) (status taken : List ℕ) (t : Turn) → n ≤ maxEvents → n ≡ length taken → w ≡ replicate n true → status ≡ everywhere 0 → t ≡ linedTurn (startTurn loaded) waiting → Fits w status taken t
+unfolding startTurn linedTurn
+fits-at-start n loaded waiting w status taken t few is hw hs ht =
     let all = trues-all n in
     let long = long-enough 0 status hs in
     rw (ht, hw) (record { counted = omega (arith, all, is); ranked = omega arith; room = omega (arith, long, is, few); few = omega (arith, long) })
@@ -101,14 +112,14 @@ listed c lent now h l e =
     sets-eq (take c now) lent 0 all ∙ rw (long, zero-add) whole
 
 -- before anything is done no event is taken and no segment is in the status
-pub none-yet : (n : ℕ) (t : Turn) (l : List ℕ) → t ≡ startTurn n → (take (t .members) l ≡ []) × (take (t .count) l ≡ [])
-unfolding startTurn
-none-yet n t l h = rw h (refl, refl)
+pub none-yet : (n waiting : ℕ) (t : Turn) (l : List ℕ) → t ≡ linedTurn (startTurn n) waiting → (take (t .members) l ≡ []) × (take (t .count) l ≡ [])
+unfolding startTurn linedTurn
+none-yet n waiting t l h = rw h (refl, refl)
 
 -- the run from there: p, l, k and so on, the pool, the status and the events taken, before it and, with a mark, after it
-module _ (p : Pool) (n loaded : ℕ) (op : Operation) (w : List Bool) (l k : List ℕ) (t r : Turn) (subject clip : Option Coordinate) (p' : Pool) (w' : List Bool) (l' k' : List ℕ) (places : n ≡ stored .size p) (hs : subject ≡ rightmost binary64 (rowAt p) true loaded) (hc : clip ≡ rightmost binary64 (rowAt p) false loaded) (hw : w ≡ replicate n true) (hl : l ≡ []) (hk : k ≡ []) (ht : t ≡ startTurn loaded) (hr : state p' w' l' k' r ≡ run binary64 stored plain op (isPast binary64 op subject clip) (n + 1) (state p w l k t)) where
+module _ (p : Pool) (n loaded waiting : ℕ) (op : Operation) (w : List Bool) (l k : List ℕ) (t r : Turn) (subject clip : Option Coordinate) (p' : Pool) (w' : List Bool) (l' k' : List ℕ) (places : n ≡ stored .size p) (hs : subject ≡ rightmost binary64 (rowAt p) true loaded) (hc : clip ≡ rightmost binary64 (rowAt p) false loaded) (hw : w ≡ replicate n true) (hl : l ≡ []) (hk : k ≡ []) (ht : t ≡ linedTurn (startTurn loaded) waiting) (hr : state p' w' l' k' r ≡ run binary64 stored plain op (isPast binary64 op subject clip) (n + 1) (state p w l k t)) where
   swept-state : state p' w' l' k' r ≡ subdivide binary64 stored plain op p loaded
-  unfolding subdivide start past startTurn stored
+  unfolding subdivide start past startTurn linedTurn stored
   swept-state = hr ∙ rw (ht, hw, hl, hk, hs, hc, places, add-one)
 
   -- the places in use do not become fewer

@@ -3,5 +3,6 @@ pub mod State
 pub mod Bounds
 pub mod Event
 pub mod Run
+pub mod Lined
 pub mod OnPool
 pub mod Turn

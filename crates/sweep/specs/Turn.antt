@@ -3,14 +3,16 @@ use mathlib.Core.Bool.{Bool, true, false, cond, _||_}
 use mathlib.Core.List.{List, [], _∷_}
 use mathlib.Core.Path.{_≡_}
 use Prim.Native.Nat.{ℕ, zero, suc, _+_, _≤_}
-use lib.ListN.{length, drop, replicate}
-use Rattle.events.specs.Pool.{Pool}
+use lib.ListN.{length, take, drop, replicate}
+use Rattle.events.specs.Binary64.{binary64}
+use Rattle.events.specs.Pool.{Pool, stored}
 use Rattle.checks.specs.Checks.{maxEvents}
 use Rattle.neighbours.specs.declared.Met.{Met}
 use Rattle.sweep.specs.declared.turn.Turn.{Turn}
 use Rattle.sweep.specs.declared.turn.Stop.{Stop}
 use Rattle.sweep.specs.declared.turn.Stop.the-variants.{Going, Ended, Refused}
 use Rattle.sweep.specs.State.{State, stopBy}
+use Rattle.sweep.specs.Lined.{Lined}
 
 -- with the members of the status and the events taken
 abbrev pub state : Pool → List Bool → List ℕ → List ℕ → Turn → State Pool
@@ -21,19 +23,23 @@ state p waits status taken t =
 
 -- nothing is taken yet
 unfoldable pub startTurn : ℕ → Turn
-startTurn n = record { used = n; members = 0; count = 0; tied = false; stop = Going }
+startTurn n = record { used = n; members = 0; waiting = 0; count = 0; tied = false; stop = Going }
 
 -- the run has come to its end
 unfoldable pub endedTurn : Turn → Turn
-endedTurn t = record { used = t .used; members = t .members; count = t .count; tied = t .tied; stop = Ended }
+endedTurn t = record { used = t .used; members = t .members; waiting = t .waiting; count = t .count; tied = t .tied; stop = Ended }
 
 -- an event is taken; whether another ties with it
 unfoldable pub takenTurn : Turn → Bool → Turn
-takenTurn t rival = record { used = t .used; members = t .members; count = t .count + 1; tied = t .tied || rival; stop = t .stop }
+takenTurn t rival = record { used = t .used; members = t .members; waiting = t .waiting; count = t .count + 1; tied = t .tied || rival; stop = t .stop }
 
 -- after a meeting, with this many members
 unfoldable pub metTurn : Turn → ℕ → ℕ → Met → Turn
-metTurn t members used met = record { used = used; members = members; count = t .count; tied = t .tied; stop = stopBy met }
+metTurn t members used met = record { used = used; members = members; waiting = t .waiting; count = t .count; tied = t .tied; stop = stopBy met }
+
+-- with this many in the queue
+unfoldable pub linedTurn : Turn → ℕ → Turn
+linedTurn t n = record { used = t .used; members = t .members; waiting = n; count = t .count; tied = t .tied; stop = t .stop }
 
 unfoldable pub isStopped : Stop → Bool
 isStopped Going = false
@@ -57,6 +63,13 @@ pub record Fits (waits : List Bool) (status taken : List ℕ) (t : Turn) : Type 
   pub ranked : t .members ≤ t .count
   pub room : length taken ≤ length status
   pub few : length status ≤ maxEvents
+
+-- The queue stands in the first places of its array, which has one for every place of the pool.
+pub record Queues (p : Pool) (waits : List Bool) (queue : List ℕ) (t : Turn) : Type 0 where
+  pub lined : Lined binary64 stored (state p waits [] [] t) (take (t .waiting) queue)
+  pub within : t .waiting ≤ length queue
+  pub room : length queue ≡ maxEvents
+  pub small : stored .size p ≤ maxEvents
 
 -- A change of pool, status and turn is the definition's, whatever waits and was taken.
 pub record Does (f : State Pool → State Pool) (p : Pool) (status : List ℕ) (t : Turn) (p' : Pool) (status' : List ℕ) (t' : Turn) : Type 0 where

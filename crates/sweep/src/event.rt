@@ -28,7 +28,7 @@ use sweep_events::meetings::close_up;
 use sweep_events::slots::slot_below;
 
 // The one below the one just below a place.
-fn lowest_at(status: &[u32], n: usize, k: usize) -> Link
+pub fn lowest_at(status: &[u32], n: usize, k: usize) -> Link
     ensures { λ x. ⌜ x ≡ below (take n (now (status .entry))) (k - 1) ⌝ }
 {
     if k == 0 {

@@ -4,13 +4,14 @@ ghost use mathlib.Core.Bool.{Bool};
 ghost use lib.ListN.{length};
 ghost use Rattle.events.specs.Binary64.{binary64, plain};
 ghost use Rattle.events.specs.Pool.{pool, stored};
-ghost use Rattle.checks.specs.Sound.{Sized};
+ghost use Rattle.checks.specs.declared.Check.the-variants.{Passed};
 ghost use Rattle.sweep.specs.OnPool.{after, sizes, accept, outcomeOf, afterRun, subdividePool};
 ghost use Rattle.sweep.specs.Run as Spec;
 ghost use Rattle.sweep.specs.Turn.{everywhere};
 
 mod bounds;
 mod event;
+mod queue;
 mod run;
 mod turn;
 
@@ -21,10 +22,12 @@ use checks::sizes::MAX_EVENTS;
 use checks::sizes::POOL_PLACE;
 use checks::sizes::pool_refused;
 use class::Operation;
+use queue::requeue;
 use refusals::Refusal;
 use refusals::SIZE;
 use run::run;
 use turn::Stop;
+use turn::line_up;
 use turn::start;
 
 pub enum Outcome {
@@ -92,7 +95,7 @@ fn all_waiting() -> [bool; MAX_EVENTS]
     [true; MAX_EVENTS]
 }
 
-// Room for as many members as a pool has places.
+// Room for as many numbers as a pool has places.
 fn no_members() -> [u32; MAX_EVENTS]
     ensures { λ r. ⌜ r ≡ everywhere 0 ⌝ }
 {
@@ -107,20 +110,23 @@ fn sweep(
     operation: Operation,
     taken: &mut [u32],
 ) -> Swept
-    requires { ⌜ Sized (length (now points)) (length (now marks)) × (length (now points) ≡ length (now taken)) ⌝ }
+    requires { ⌜ accept (pool (now points) (now marks)) loaded (now taken) ≡ Passed ⌝ }
     ensures { λ r. ⌜ after r (pool (now (points .exit)) (now (marks .exit))) (now (taken .exit)) ≡ afterRun (Spec.subdivide binary64 stored plain operation (pool (now (points .entry)) (now (marks .entry))) loaded) loaded (now (taken .entry)) ⌝ }
 {
     let size = points.len();
     let bounds = bounds_of(points, marks, loaded);
     let mut waits = all_waiting();
+    let mut queue = no_members();
     let mut status = no_members();
+    let waiting = requeue(points, marks, &waits[..size], 0, loaded, &mut queue, 0);
     let last = run(
         points,
         marks,
         &mut waits[..size],
+        &mut queue,
         &mut status,
         taken,
-        start(loaded),
+        line_up(start(loaded), waiting),
         operation,
         bounds,
         size + 1,

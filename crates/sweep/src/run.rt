@@ -8,17 +8,20 @@ ghost use Rattle.events.specs.Pool.{pool, stored};
 ghost use Rattle.checks.specs.Checks.{maxEvents};
 ghost use Rattle.sweep.specs.Bounds.{reachOf, isPast};
 ghost use Rattle.sweep.specs.Run as Spec;
-ghost use Rattle.sweep.specs.Turn.{state, takenTurn, Fits, Beyond};
+ghost use Rattle.sweep.specs.Turn.{state, takenTurn, Fits, Queues, Beyond};
 use crate::bounds::Bounds;
+use crate::event::lowest_at;
 use crate::event::work;
+use crate::queue::requeue;
 use crate::turn::Turn;
 use crate::turn::end;
 use crate::turn::is_stopped;
+use crate::turn::line_up;
 use crate::turn::taking;
 use class::Operation;
 use events::Link;
-use waiting::first_waiting;
-use waiting::is_rivalled;
+use status::below_at;
+use waiting::ties_with;
 
 // Event e waits no longer, and is the last of those taken.
 fn take_event(waits: &mut [bool], taken: &mut [u32], t: Turn, e: u32, rival: bool) -> Turn
@@ -38,22 +41,27 @@ fn step(
     points: &mut [[f64; 2]],
     marks: &mut [[u32; 12]],
     waits: &mut [bool],
+    queue: &mut [u32],
     status: &mut [u32],
     taken: &mut [u32],
     t: Turn,
     operation: Operation,
     bounds: Bounds,
 ) -> Turn
-    requires { ⌜ Fits (now waits) (now status) (now taken) t ⌝ }
+    requires { ⌜ Fits (now waits) (now status) (now taken) t × Queues (pool (now points) (now marks)) (now waits) (now queue) t ⌝ }
     ensures { λ r. ⌜ state (pool (now (points .exit)) (now (marks .exit))) (now (waits .exit)) (take (r .members) (now (status .exit))) (take (r .count) (now (taken .exit))) r ≡ Spec.step binary64 stored plain operation (isPast binary64 operation (reachOf (bounds .subject)) (reachOf (bounds .clip))) (state (pool (now (points .entry)) (now (marks .entry))) (now (waits .entry)) (take (t .members) (now (status .entry))) (take (t .count) (now (taken .entry))) t) ⌝ }
     ensures { λ r. ⌜ Fits (now (waits .exit)) (now (status .exit)) (now (taken .exit)) r × Beyond (now (taken .entry)) (now (taken .exit)) t r ⌝ }
+    ensures { λ r. ⌜ Queues (pool (now (points .exit)) (now (marks .exit))) (now (waits .exit)) (now (queue .exit)) r ⌝ }
 {
-    match first_waiting(points, marks, t.used, waits) {
+    let n = t.waiting as usize;
+    match below_at(queue, n, n) {
         Link::None => end(t),
         Link::To(e) => {
-            let rival = is_rivalled(points, marks, t.used, waits, e);
+            let rival = ties_with(points, marks, t.used, e, lowest_at(queue, n, n));
             let u = take_event(waits, taken, t, e, rival);
-            work(points, marks, status, u, e, operation, bounds)
+            let v = work(points, marks, status, u, e, operation, bounds);
+            let m = requeue(points, marks, waits, t.used, v.used, queue, t.waiting - 1);
+            line_up(v, m)
         }
     }
 }
@@ -63,6 +71,7 @@ pub fn run(
     points: &mut [[f64; 2]],
     marks: &mut [[u32; 12]],
     waits: &mut [bool],
+    queue: &mut [u32],
     status: &mut [u32],
     taken: &mut [u32],
     t: Turn,
@@ -70,9 +79,10 @@ pub fn run(
     bounds: Bounds,
     steps: usize,
 ) -> Turn
-    requires { ⌜ Fits (now waits) (now status) (now taken) t ⌝ }
+    requires { ⌜ Fits (now waits) (now status) (now taken) t × Queues (pool (now points) (now marks)) (now waits) (now queue) t ⌝ }
     ensures { λ r. ⌜ state (pool (now (points .exit)) (now (marks .exit))) (now (waits .exit)) (take (r .members) (now (status .exit))) (take (r .count) (now (taken .exit))) r ≡ Spec.run binary64 stored plain operation (isPast binary64 operation (reachOf (bounds .subject)) (reachOf (bounds .clip))) steps (state (pool (now (points .entry)) (now (marks .entry))) (now (waits .entry)) (take (t .members) (now (status .entry))) (take (t .count) (now (taken .entry))) t) ⌝ }
     ensures { λ r. ⌜ Fits (now (waits .exit)) (now (status .exit)) (now (taken .exit)) r × Beyond (now (taken .entry)) (now (taken .exit)) t r ⌝ }
+    ensures { λ r. ⌜ Queues (pool (now (points .exit)) (now (marks .exit))) (now (waits .exit)) (now (queue .exit)) r ⌝ }
 {
     let mut now = t;
     let mut k = 0;
@@ -81,7 +91,17 @@ pub fn run(
         if is_stopped(stop) {
             return now;
         }
-        now = step(points, marks, waits, status, taken, now, operation, bounds);
+        now = step(
+            points,
+            marks,
+            waits,
+            queue,
+            status,
+            taken,
+            now,
+            operation,
+            bounds,
+        );
         k += 1;
     }
     now

@@ -3,7 +3,7 @@ ghost use mathlib.Core.Path.{_≡_};
 ghost use Prim.Native.Nat.{_<_};
 ghost use Rattle.checks.specs.Checks.{maxEvents};
 ghost use Rattle.sweep.specs.State.{stopBy};
-ghost use Rattle.sweep.specs.Turn.{startTurn, endedTurn, takenTurn, metTurn, isStopped};
+ghost use Rattle.sweep.specs.Turn.{startTurn, endedTurn, takenTurn, metTurn, linedTurn, isStopped};
 use neighbours::Met;
 use neighbours::Neighbours;
 use refusals::Refusal;
@@ -19,6 +19,8 @@ pub struct Turn {
     pub used: u32,
     // The members of the status.
     pub members: u32,
+    // The members of the queue.
+    pub waiting: u32,
     // The events taken.
     pub count: u32,
     pub tied: bool,
@@ -32,6 +34,7 @@ pub fn start(used: u32) -> Turn
     Turn {
         used: used,
         members: 0,
+        waiting: 0,
         count: 0,
         tied: false,
         stop: Stop::Going,
@@ -45,6 +48,7 @@ pub fn end(t: Turn) -> Turn
     Turn {
         used: t.used,
         members: t.members,
+        waiting: t.waiting,
         count: t.count,
         tied: t.tied,
         stop: Stop::Ended,
@@ -60,8 +64,24 @@ pub fn taking(t: Turn, rival: bool) -> Turn
     Turn {
         used: t.used,
         members: t.members,
+        waiting: t.waiting,
         count: t.count + 1,
         tied: t.tied | rival,
+        stop: stop,
+    }
+}
+
+// With this many in the queue.
+pub fn line_up(t: Turn, waiting: u32) -> Turn
+    ensures { λ r. ⌜ r ≡ linedTurn t waiting ⌝ }
+{
+    let stop = t.stop;
+    Turn {
+        used: t.used,
+        members: t.members,
+        waiting: waiting,
+        count: t.count,
+        tied: t.tied,
         stop: stop,
     }
 }
@@ -93,6 +113,7 @@ pub fn after_meeting(t: Turn, members: u32, last: Neighbours) -> Turn
     Turn {
         used: last.used,
         members: members,
+        waiting: t.waiting,
         count: t.count,
         tied: t.tied,
         stop: stop_by(met),

@@ -28,15 +28,16 @@ use Rattle.loading.proofs.Accepted.{accepted, as-many}
 use Rattle.loading.proofs.AsLoaded.{as-loaded}
 use Rattle.sweep.specs.Run.{subdivide}
 use Rattle.sweep.specs.OnPool.{After, sizes, accept, answerOf, afterRun, subdividePool}
+use Rattle.sweep.specs.Lined.{Good}
+use Rattle.sweep.proofs.Looks.{pool-blanks}
 use Rattle.sweep_order.specs.Loadings.{NeverTie, OnlyNumbers}
 use Rattle.sweep_order.specs.OnPool.{Reordered, SameSize, SameAfter, OrderFreeCalls}
-use Rattle.sweep_order.proofs.Good.{Good}
 use Rattle.sweep_order.proofs.Permuted as Permuted
 use Rattle.sweep_order.proofs.Loaded.{kept-loaded}
 use Rattle.sweep_order.proofs.Checked.{any-order}
 use Rattle.sweep_order.proofs.Started.{good-loaded}
 use Rattle.sweep_order.proofs.Order.{order-free, never-tie}
-use Rattle.sweep_order.proofs.Calls.{pool-blanks, called, same-calls}
+use Rattle.sweep_order.proofs.Calls.{called, same-calls}
 
 -- ---- one loading
 

@@ -8,8 +8,7 @@ use lib.Seq.{sets, getD-set-other}
 use Rattle.numbers.specs.declared.Coordinate.{Coordinate}
 use Rattle.events.specs.Binary64.{binary64, plain}
 use Rattle.events.specs.Event.{Event}
-use Rattle.events.specs.Renaming.{renameLink, rename}
-use Rattle.events.specs.Pool.{Pool, pointOf, marksOf, store, size, blank, stored}
+use Rattle.events.specs.Pool.{Pool, pointOf, marksOf, store, size, stored}
 use Rattle.events.proofs.Stored.{pool-stored}
 use Rattle.class.specs.declared.Operation.{Operation}
 use Rattle.checks.specs.declared.Check.the-variants.{Passed}
@@ -19,16 +18,12 @@ use Rattle.sweep.specs.declared.turn.Stop.the-variants.{Going, Ended, Refused}
 use Rattle.sweep.specs.State.{State}
 use Rattle.sweep.specs.Run.{subdivide, divisions}
 use Rattle.sweep.specs.OnPool.{After, accept, outcomeOf, answerOf, afterRun, afterChecks, subdividePool}
+use Rattle.sweep.specs.Lined.{Good}
+use Rattle.sweep.proofs.Looks.{pool-blanks}
 use Rattle.sweep_order.specs.SameBut.{renameStop, SameBut}
 use Rattle.sweep_order.specs.Loadings.{after}
 use Rattle.sweep_order.specs.OnPool.{renameOutcome, renameSwept, AsLent, SameAfter}
-use Rattle.sweep_order.proofs.Twins.{Blanks}
-use Rattle.sweep_order.proofs.Good.{Good}
 use Rattle.sweep_order.proofs.Unused.{unused}
-
-pub pool-blanks : Blanks stored
-unfolding stored blank rename renameLink
-pool-blanks = record { renamed = λ f r. refl; right = λ r. refl }
 
 -- ---- places that are not in use
 

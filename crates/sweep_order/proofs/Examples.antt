@@ -17,9 +17,9 @@ use Rattle.division.proofs.AtBinary64.{move-laws}
 use Rattle.loading.specs.Loading.{Edge, loaded, checkedEdge, checkedEdges}
 use Rattle.sweep.specs.State.{State}
 use Rattle.sweep.specs.Run.{subdivide}
+use Rattle.sweep.proofs.Looks.{pool-blanks}
 use Rattle.sweep_order.specs.Loadings.{OrderFree}
 use Rattle.sweep_order.proofs.Order.{order-free}
-use Rattle.sweep_order.proofs.Calls.{pool-blanks}
 use Rattle.numbers.specs.Binary64 as N
 use Rattle.numbers.specs.Exact as X
 use Rattle.orientation.specs.Orientation as O

@@ -13,10 +13,10 @@ use Rattle.order.proofs.Grid.{grid}
 use Rattle.order.proofs.Laws.{OrderLaws}
 use Rattle.class.specs.declared.Operation.{Operation}
 use Rattle.class.specs.declared.Operation.the-variants.{Intersection, Difference, Union, Xor}
+use Rattle.waiting.proofs.First.{below-suc}
 use Rattle.sweep.specs.Bounds.{farther, rightmost, isRightOf, isPast, past}
 use Rattle.sweep_order.specs.SameBut.{Renaming}
 use Rattle.sweep_order.proofs.Renamings.{agree, below-to, below-from}
-use Rattle.sweep_order.proofs.Scan.{below-suc}
 
 and-true : (a b : Bool) → (a && b) ≡ true → (a ≡ true) × (b ≡ true)
 and-true true b h = (refl, h)

@@ -6,8 +6,6 @@ pub mod Cuts
 pub mod Meetings
 pub mod Places
 pub mod Turns
-pub mod Walk
-pub mod Good
 pub mod Farthest
 pub mod Told
 pub mod Runs

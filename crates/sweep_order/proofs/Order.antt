@@ -16,17 +16,19 @@ use Rattle.division.proofs.Sides.{MoveLaws}
 use Rattle.checks.specs.declared.Check.the-variants.{Passed}
 use Rattle.loading.specs.Loading.{Edge, loaded, checkedEdges}
 use Rattle.waiting.specs.Waiting.{flagged}
+use Rattle.waiting.proofs.First.{found, none-rivals}
 use Rattle.sweep.specs.declared.turn.Stop.{Stop}
 use Rattle.sweep.specs.declared.turn.Stop.the-variants.{Going, Ended, Refused}
 use Rattle.sweep.specs.State.{State, start, halt, goOn}
 use Rattle.sweep.specs.Bounds.{past}
 use Rattle.sweep.specs.Run.{isBefore, next, isTied, stepBy, step, run, subdivide}
+use Rattle.sweep.specs.Lined.{Good}
+use Rattle.sweep.proofs.Looks.{Blanks}
+use Rattle.sweep.proofs.Good.{in-use}
 use Rattle.sweep_order.specs.SameBut.{Renaming, SameBut}
 use Rattle.sweep_order.specs.Loadings.{NoTwoTie, after, NeverTie, OnlyNumbers, OrderFree}
 use Rattle.sweep_order.proofs.Renamings.{below-to}
-use Rattle.sweep_order.proofs.Scan.{found, none-rivals}
-use Rattle.sweep_order.proofs.Twins.{Blanks, Twin}
-use Rattle.sweep_order.proofs.Good.{Good, in-use}
+use Rattle.sweep_order.proofs.Twins.{Twin}
 use Rattle.sweep_order.proofs.Farthest.{same-past}
 use Rattle.sweep_order.proofs.Told.{tied-taken}
 use Rattle.sweep_order.proofs.Runs.{sim-run, same-but}

@@ -15,17 +15,20 @@ use Rattle.order.proofs.Laws.{otherwise, trans}
 use Rattle.class.specs.declared.Operation.{Operation}
 use Rattle.division.proofs.Sides.{MoveLaws}
 use Rattle.waiting.specs.Waiting.{first, rivalled, flagged}
+use Rattle.waiting.proofs.First.{found}
 use Rattle.sweep.specs.declared.turn.Stop.{Stop}
 use Rattle.sweep.specs.declared.turn.Stop.the-variants.{Going, Ended, Refused}
 use Rattle.sweep.specs.State.{State, halt, takes, goOn}
 use Rattle.sweep.specs.Run.{isBefore, next, isTied, stepBy, step, run}
+use Rattle.sweep.specs.Lined.{Good}
+use Rattle.sweep.proofs.Looks.{Blanks}
+use Rattle.sweep.proofs.Walk.{all-any, on-turn}
+use Rattle.sweep.proofs.Good.{in-use, closed, valid}
 use Rattle.sweep_order.specs.SameBut.{Renaming, renameStop, SameBut}
 use Rattle.sweep_order.proofs.Renamings.{below-to}
 use Rattle.sweep_order.proofs.Told.{untied-at}
-use Rattle.sweep_order.proofs.Scan.{found, Strict, strict, none-to, first-to, unrivalled-to}
-use Rattle.sweep_order.proofs.Twins.{Blanks, before-to}
-use Rattle.sweep_order.proofs.Walk.{all-any, on-turn}
-use Rattle.sweep_order.proofs.Good.{Good, in-use, closed, valid}
+use Rattle.sweep_order.proofs.Scan.{Strict, strict, none-to, first-to, unrivalled-to}
+use Rattle.sweep_order.proofs.Twins.{before-to}
 use Rattle.sweep_order.proofs.Turns.{Sim, sim-halt, sim-takes, sim-turn}
 
 module _ {P S : Type 0} {C : Coordinates P} {K : Store P S} (M : MoveLaws C) (st : Stored K) (bl : Blanks K) where

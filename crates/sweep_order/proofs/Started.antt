@@ -4,9 +4,9 @@ use mathlib.Core.Bool.{Bool, true, false, not, cond}
 use mathlib.Core.List.{List, [], _∷_, List·Permᴰ}
 use Prim.Native.Nat.{ℕ, zero, suc, _≤_, _+_, _*_}
 use native.Mathlib.Omega.{arith}
-use lib.ListN.{length, replicate}
-use lib.Dec.{ltb, leb·suc-suc}
-use borrow.Author.Tests.{ltb-true, ltb-false, lt-ltb, le-ltb}
+use lib.ListN.{length}
+use lib.Dec.{ltb}
+use borrow.Author.Tests.{ltb-true, ltb-false}
 use Rattle.events.specs.declared.Link.{Link}
 use Rattle.events.specs.declared.Link.the-variants.{None, To}
 use Rattle.events.specs.Coordinates.{Coordinates, same, ahead}
@@ -20,23 +20,17 @@ use Rattle.division.proofs.Sides.{MoveLaws}
 use Rattle.loading.specs.Loading.{Edge, loaded, checkedEdges}
 use Rattle.loading.proofs.Rows.{rows, size-loaded}
 use Rattle.loading.proofs.AsLoaded.{sounds}
-use Rattle.waiting.specs.Waiting.{flagged}
 use Rattle.sweep.specs.State.{start}
+use Rattle.sweep.specs.Lined.{Good}
+use Rattle.sweep.proofs.Flags.{all-flagged}
+use Rattle.sweep.proofs.Looks.{Blanks}
+use Rattle.sweep.proofs.Good.{good-checked}
 use Rattle.sweep_order.specs.SameBut.{Renaming, renameStop}
 use Rattle.sweep_order.proofs.Renamings.{ltb-to}
-use Rattle.sweep_order.proofs.Twins.{Blanks, Twin}
-use Rattle.sweep_order.proofs.Good.{Good, good-checked}
+use Rattle.sweep_order.proofs.Twins.{Twin}
 use Rattle.sweep_order.proofs.Turns.{Sim}
 use Rattle.sweep_order.proofs.Permuted.{renamingOf, two, at, at-to}
 use Rattle.sweep_order.proofs.Loaded.{loaded-at}
-
--- ---- all wait
-
-flags : (k r : ℕ) → flagged (replicate k true) r ≡ ltb r k
-unfolding flagged
-flags zero r = sym (le-ltb r 0 (omega arith))
-flags (suc k) zero = sym (lt-ltb 0 (suc k) (omega arith))
-flags (suc k) (suc r) = flags k r ∙ sym (leb·suc-suc (suc r) k)
 
 module _ {P S : Type 0} {K : Store P S} {n : ℕ} {ρ : Renaming n} where
   pub sim-start : {s s′ : S} → Twin K ρ s s′ n → Sim K ρ (start s (K .size s) n) (start s′ (K .size s′) n)
@@ -45,7 +39,7 @@ module _ {P S : Type 0} {K : Store P S} {n : ℕ} {ρ : Renaming n} where
       record {
         used = refl;
         stores = t;
-        waits = λ r. flags (K .size s′) (ρ .to r) ∙ ap (ltb (ρ .to r)) (t .size) ∙ ltb-to ρ (K .size s) r (t .fits) ∙ sym (flags (K .size s) r);
+        waits = λ r. all-flagged (K .size s′) (ρ .to r) ∙ ap (ltb (ρ .to r)) (t .size) ∙ ltb-to ρ (K .size s) r (t .fits) ∙ sym (all-flagged (K .size s) r);
         status = refl;
         taken = refl;
         tied = refl;

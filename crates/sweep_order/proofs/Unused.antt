@@ -20,16 +20,17 @@ use Rattle.division.proofs.Outcomes.{as-lent, passed}
 use Rattle.division.proofs.Sides.{MoveLaws}
 use Rattle.neighbours.specs.Step.{cut}
 use Rattle.waiting.specs.Waiting.{flagged}
+use Rattle.waiting.proofs.First.{found}
 use Rattle.sweep.specs.declared.turn.Stop.{Stop}
 use Rattle.sweep.specs.declared.turn.Stop.the-variants.{Going, Ended, Refused}
 use Rattle.sweep.specs.State.{State, start, halt, takes, goOn}
 use Rattle.sweep.specs.Bounds.{past}
 use Rattle.sweep.specs.Run.{isBefore, next, isTied, stepBy, step, run}
+use Rattle.sweep.specs.Lined.{Good}
+use Rattle.sweep.proofs.Looks.{Blanks}
+use Rattle.sweep.proofs.Walk.{Face, all-weaker, Closed, Holds, on-turn}
+use Rattle.sweep.proofs.Good.{good-put, good-cut, left-in-use}
 use Rattle.sweep_order.specs.Loadings.{after}
-use Rattle.sweep_order.proofs.Scan.{found}
-use Rattle.sweep_order.proofs.Twins.{Blanks}
-use Rattle.sweep_order.proofs.Walk.{Face, all-weaker, Closed, Holds, on-turn}
-use Rattle.sweep_order.proofs.Good.{Good, good-put, good-cut, left-in-use}
 
 -- what a place holds, read in any way that a store elsewhere leaves alone
 module _ {P S A : Type 0} {C : Coordinates P} {K : Store P S} (M : MoveLaws C) (st : Stored K) (bl : Blanks K) (held : S → ℕ → A)

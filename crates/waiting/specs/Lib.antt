@@ -1,2 +1,3 @@
--- The waiting events.
+-- The waiting events, and their queue.
 pub mod Waiting
+pub mod Queue

@@ -2,13 +2,13 @@
 use borrow.Author.Needs.{needs}
 use mathlib.Core.Path.{sym, _∙_}
 use Rattle.sweep.specs.OnPool.{asLent}
-use Rattle.sweep.proofs.Sweeps.{accepted, refused-is, passed-is}
+use Rattle.sweep.proofs.Sweeps.{refused-is, passed-is}
 use Rattle.sweep.proofs.subdivide.Statement.{statement}
 use Rattle.sweep.proofs.subdivide.Tie as tie
 
 sweep-requires : tie.Need-sweep-requires
 unfolding asLent
-sweep-requires c κs = accepted _ _ _ (sym (c .before .before .before .before .before .check .ensures) ∙ c .before .before .before .enum-told .given .1)
+sweep-requires c κs = sym (c .before .before .before .before .before .check .ensures) ∙ c .before .before .before .enum-told .given .1
 
 returns : tie.Need-returns
 unfolding asLent

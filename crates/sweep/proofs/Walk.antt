@@ -1,5 +1,5 @@
--- One walk through an event for every invariant: what is kept by storing, at a number at hand, a record with its point, flag and partner as they were,
--- and by a cut, holds after it. At hand are the event taken and the members of the status.
+-- One walk through an event for every invariant: what is kept by storing, at a number at hand, a record with its key and partner as they were, and by a
+-- cut, holds after it. At hand are the event taken and the members of the status.
 use mathlib.Core.Path.{_≡_, refl, sym}
 use mathlib.Core.Bool.{Bool, true, false, cond, _&&_, _||_}
 use mathlib.Core.List.{List, [], _∷_, _++_}
@@ -24,21 +24,23 @@ use Rattle.neighbours.specs.Step.{step, cut, cutUnless, twice}
 use Rattle.neighbours.specs.Step as Step
 use Rattle.neighbours.specs.Neighbours.{Meeting, meeting, ended, typed, crossed, coincided, leftShared, laid, overlapped, oneLayer, meetBy, meet}
 use Rattle.status.specs.Status.{slot, member, below, insert, remove}
 use Rattle.sweep.specs.declared.turn.Stop.{Stop}
 use Rattle.sweep.specs.declared.turn.Stop.the-variants.{Going, Ended, Refused}
 use Rattle.sweep.specs.State.{State, halt, ranked, goOn, andThen, meets}
 use Rattle.sweep_events.specs.Event.{isTwo, afterwards, lowerIn, classified, reclassed, withUpper, withLower, between, closeUp, isBelow}
 use Rattle.sweep.specs.Event.{enter, leaveAt, leave, turn}
-use Rattle.sweep_order.proofs.Twins.{look-store}
+use Rattle.sweep.proofs.Looks.{look-store}
 
 -- two records alike in what the orders and the divisions see
 pub record Face {P : Type 0} (x y : Event P) : Type 0 where
   pub point : x .point ≡ y .point
   pub left : x .left ≡ y .left
+  pub subject : x .subject ≡ y .subject
+  pub ring : x .ring ≡ y .ring
   pub partner : x .partner ≡ y .partner
 
 pub face-refl : {P : Type 0} (x : Event P) → Face x x
-face-refl x = record { point = refl; left = refl; partner = refl }
+face-refl x = record { point = refl; left = refl; subject = refl; ring = refl; partner = refl }
 
 -- a record stored over one alike leaves all records alike
 pub face-store : {P S : Type 0} {K : Store P S} (st : Stored K) (s : S) (used i : ℕ) (e : Event P) → used ≤ K .size s → Face e (look K s used i) → (j : ℕ) → Face (look K (K .store s i e) used j) (look K s used j)
@@ -143,10 +145,10 @@ module _ {P S : Type 0} {C : Coordinates P} {K : Store P S} (st : Stored K) (I :
   unfolding coincided typed
   on-coincided s used a b g na nb =
       let second = look K s used b in
-      let fb : Face (typed second NonContributing) second = record { point = refl; left = refl; partner = refl } in
+      let fb : Face (typed second NonContributing) second = record { point = refl; left = refl; subject = refl; ring = refl; partner = refl } in
       let one = cl .put s used b (typed second NonContributing) g nb fb in
       let f = face-store st s used b (typed second NonContributing) (cl .fits s used g) fb a in
-      cl .put _ used a _ one na (record { point = sym (f .point); left = sym (f .left); partner = sym (f .partner) })
+      cl .put _ used a _ one na (record { point = sym (f .point); left = sym (f .left); subject = sym (f .subject); ring = sym (f .ring); partner = sym (f .partner) })
 
   on-laid : (s : S) (used : ℕ) (oneRight : Bool) (i j h k : ℕ) → I s used → AfterStep (laid C K s used oneRight i j h k)
   unfolding laid
@@ -180,8 +182,8 @@ module _ {P S : Type 0} {C : Coordinates P} {K : Store P S} (st : Stored K) (I :
   -- ---- class
   face-fields : (op : Operation) (e : Event P) (lower : Lower P) → Face (fields op e lower) e
   unfolding fields setFromLower written
-  face-fields op e NoEdge = record { point = refl; left = refl; partner = refl }
-  face-fields op e (Edge k) = record { point = refl; left = refl; partner = refl }
+  face-fields op e NoEdge = record { point = refl; left = refl; subject = refl; ring = refl; partner = refl }
+  face-fields op e (Edge k) = record { point = refl; left = refl; subject = refl; ring = refl; partner = refl }
 
   on-classified : (op : Operation) (s : S) (used e : ℕ) (lower : Link) → I s used → N e → I (classified C K op s used e lower) used
   unfolding classified

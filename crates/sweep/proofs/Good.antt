@@ -19,24 +19,14 @@ use Rattle.division.specs.declared.Division.{Division}
 use Rattle.division.specs.declared.Division.the-variants.{Done, Refused}
 use Rattle.division.specs.declared.Divided.{Divided}
 use Rattle.division.specs.Division.{moved, misses, newEnd, linked, After, divide}
-use Rattle.division.specs.Records.{Paired}
 use Rattle.division.proofs.Outcomes.{as-lent, same-size, passed, used-after}
 use Rattle.division.proofs.Sides.{MoveLaws}
 use Rattle.division.proofs.Whole.{Segment, Whole, whole}
 use Rattle.neighbours.specs.Step.{cut}
 use Rattle.checks.proofs.Unstruck.{neither}
-use Rattle.sweep_order.proofs.Twins.{Blanks}
-use Rattle.sweep_order.proofs.Walk.{Face, face-store, Closed}
-
--- record r of the first n
-pub record Sound {P : Type 0} (C : Coordinates P) (row : ℕ → Event P) (n r : ℕ) : Type 0 where
-  pub paired : Paired row n r
-  pub side : onSide C (keyOf row r) ≡ true
-  pub fit : C .fit (row r .point) ≡ true
-
-pub record Good {P S : Type 0} (C : Coordinates P) (K : Store P S) (s : S) (used : ℕ) : Type 0 where
-  pub fits : used ≤ K .size s
-  pub sound : (r : ℕ) → r < used → Sound C (look K s used) used r
+use Rattle.sweep.specs.Lined.{Sound, Good}
+use Rattle.sweep.proofs.Looks.{Blanks}
+use Rattle.sweep.proofs.Walk.{Face, face-store, Closed}
 
 -- ---- what the checks 2 and 4 leave
 
@@ -63,16 +53,19 @@ module _ {P S : Type 0} (C : Coordinates P) (K : Store P S) where
 -- ---- a record stored over one alike
 
 module _ {P : Type 0} (C : Coordinates P) {row row' : ℕ → Event P} (f : (j : ℕ) → Face (row' j) (row j)) where
-  key-alike : (r : ℕ) → onSide C (keyOf row' r) ≡ onSide C (keyOf row r)
-  unfolding onSide keyOf key
-  key-alike r = rw (f r .left, f r .point, ap (λ k. row' k .point) (f r .partner) ∙ f (row r .partner) .point)
+  pub key-alike : (r : ℕ) → keyOf row' r ≡ keyOf row r
+  unfolding keyOf key
+  key-alike r =
+      let x = f r in
+      let mate = ap (λ k. row' k .point) (x .partner) ∙ f (row r .partner) .point in
+      λ i. record { point = x .point i; left = x .left i; subject = x .subject i; ring = x .ring i; mate = mate i }
 
   sound-alike : {n : ℕ} (r : ℕ) → Sound C row n r → Sound C row' n r
   sound-alike r h =
       let p = h .paired in
       record {
         paired = record { own = p .own; other = rw (f r .partner) (p .other); back = ap (λ k. row' k .partner) (f r .partner) ∙ f (row r .partner) .partner ∙ p .back };
-        side = key-alike r ∙ h .side;
+        side = ap (onSide C) (key-alike r) ∙ h .side;
         fit = ap (C .fit) (f r .point) ∙ h .fit;
       }
 
@@ -124,7 +117,7 @@ module _ {P S : Type 0} {C : Coordinates P} {K : Store P S} (M : MoveLaws C) (st
             let back : ahead C (row o .point) (row (row o .partner) .point) ≡ true = rw q at (other .side) in
             absurd (true≢false (sym back ∙ ap (λ k. ahead C (row o .point) (row k .point)) (own .paired .back) ∙ not-back))
 
-    segment : (i : ℕ) → row i .left ≡ true → Segment C row used i
+    pub segment : (i : ℕ) → row i .left ≡ true → Segment C row used i
     segment i h =
         let l = left-in-use s used i h in
         let own = g .sound i l in
@@ -141,9 +134,25 @@ module _ {P S : Type 0} {C : Coordinates P} {K : Store P S} (M : MoveLaws C) (st
 
   -- every record after a division that is done
   module _ {row row' : ℕ → Event P} {used i : ℕ} {c : P} {move : Bool} {d : Divided} (h : (r : ℕ) → r < used → Sound C row used r) (own : i < used)
-      (hit : C .fit c ≡ true) (w : Whole C row row' used i c move d) where
+      (w : Whole C row row' used i c move d) where
     abbrev o : ℕ
     o = row i .partner
+
+    -- a record of another segment and its partner are as before
+    beside : (r : ℕ) → r < used → r ≢ i → r ≢ o → (row' r ≡ row r) × (row' (row r .partner) ≡ row (row r .partner))
+    beside r l not-i not-o =
+        let p = h r l .paired in
+        let mate = row r .partner in
+        let mate-below = p .other in
+        let mate-not-i : mate ≢ i = λ e. not-o (sym (p .back) ∙ ap (λ k. row k .partner) e) in
+        let mate-not-o : mate ≢ o = λ e. not-i (sym (p .back) ∙ ap (λ k. row k .partner) e ∙ h i own .paired .back) in
+        (w .records .rest r (λ e. omega arith) (λ e. omega arith) not-i not-o, w .records .rest mate (λ e. omega arith) (λ e. omega arith) mate-not-i mate-not-o)
+
+    pub key-beside : (r : ℕ) → r < used → r ≢ i → r ≢ o → keyOf row' r ≡ keyOf row r
+    unfolding keyOf
+    key-beside r l not-i not-o =
+        let same = beside r l not-i not-o in
+        ap₂ (λ (e f : Event P). key e (f .point)) (same .0) (ap (λ (e : Event P). row' (e .partner)) (same .0) ∙ same .1)
 
     at-i : Sound C row' (used + 2) i
     unfolding linked
@@ -155,38 +164,30 @@ module _ {P S : Type 0} {C : Coordinates P} {K : Store P S} (M : MoveLaws C) (st
         let other = h o (h i own .paired .other) in
         record { paired = w .still o (other .paired); side = w .on-sides .other; fit = ap (λ e. C .fit (e .point)) (w .records .other) ∙ other .fit }
 
-    at-right : Sound C row' (used + 2) used
+    at-right : C .fit c ≡ true → Sound C row' (used + 2) used
     unfolding newEnd
-    at-right = record { paired = w .new-right; side = w .on-sides .right-end; fit = ap (λ e. C .fit (e .point)) (w .records .right) ∙ hit }
+    at-right hit = record { paired = w .new-right; side = w .on-sides .right-end; fit = ap (λ e. C .fit (e .point)) (w .records .right) ∙ hit }
 
-    at-left : Sound C row' (used + 2) (used + 1)
+    at-left : C .fit c ≡ true → Sound C row' (used + 2) (used + 1)
     unfolding newEnd
-    at-left = record { paired = w .new-left; side = w .on-sides .left-end; fit = ap (λ e. C .fit (e .point)) (w .records .left) ∙ hit }
-
-    same-key : (r : ℕ) → row' r ≡ row r → row' (row r .partner) ≡ row (row r .partner) → keyOf row' r ≡ keyOf row r
-    unfolding keyOf
-    same-key r here there = ap₂ (λ (e f : Event P). key e (f .point)) here (ap (λ (e : Event P). row' (e .partner)) here ∙ there)
-
-    untouched : (r : ℕ) → Sound C row used r → row' r ≡ row r → row' (row r .partner) ≡ row (row r .partner) → Sound C row' (used + 2) r
-    untouched r x here there =
-        record { paired = w .still r (x .paired); side = ap (onSide C) (same-key r here there) ∙ x .side; fit = ap (λ e. C .fit (e .point)) here ∙ x .fit }
+    at-left hit = record { paired = w .new-left; side = w .on-sides .left-end; fit = ap (λ e. C .fit (e .point)) (w .records .left) ∙ hit }
 
     elsewhere : (r : ℕ) → r < used → r ≢ i → r ≢ o → Sound C row' (used + 2) r
     elsewhere r l not-i not-o =
-        let p = h r l .paired in
-        let mate = row r .partner in
-        let mate-below = p .other in
-        let mate-not-i : mate ≢ i = λ e. not-o (sym (p .back) ∙ ap (λ k. row k .partner) e) in
-        let mate-not-o : mate ≢ o = λ e. not-i (sym (p .back) ∙ ap (λ k. row k .partner) e ∙ h i own .paired .back) in
-        untouched r (h r l) (w .records .rest r (λ e. omega arith) (λ e. omega arith) not-i not-o)
-        (w .records .rest mate (λ e. omega arith) (λ e. omega arith) mate-not-i mate-not-o)
+        let x = h r l in
+        let here = beside r l not-i not-o .0 in
+        record {
+          paired = w .still r (x .paired);
+          side = ap (onSide C) (key-beside r l not-i not-o) ∙ x .side;
+          fit = ap (λ e. C .fit (e .point)) here ∙ x .fit;
+        }
 
-    all-sound : (r : ℕ) → r < used + 2 → Sound C row' (used + 2) r
-    all-sound r l = go (eqb r used) refl (eqb r (used + 1)) refl (eqb r i) refl (eqb r o) refl
+    all-sound : C .fit c ≡ true → (r : ℕ) → r < used + 2 → Sound C row' (used + 2) r
+    all-sound hit r l = go (eqb r used) refl (eqb r (used + 1)) refl (eqb r i) refl (eqb r o) refl
       where
         go : (a : Bool) → eqb r used ≡ a → (b : Bool) → eqb r (used + 1) ≡ b → (x : Bool) → eqb r i ≡ x → (y : Bool) → eqb r o ≡ y → Sound C row' (used + 2) r
-        go true p b q x u y v = rw (eqb-true r used p) at-right
-        go false p true q x u y v = rw (eqb-true r (used + 1) q) at-left
+        go true p b q x u y v = rw (eqb-true r used p) (at-right hit)
+        go false p true q x u y v = rw (eqb-true r (used + 1) q) (at-left hit)
         go false p false q true u y v = rw (eqb-true r i u) at-i
         go false p false q false u true v = rw (eqb-true r o v) at-o
         go false p false q false u false v =
@@ -205,7 +206,7 @@ module _ {P S : Type 0} {C : Coordinates P} {K : Store P S} (M : MoveLaws C) (st
       let room = ok .free in
       let size = same-size C K s used i p st in
       let hit = cut-fit (look K s used i .point) (look K s used (look K s used i .partner) .point) (moved C (look K s used i .point) p) (ok .hits) in
-      good-by _ used _ (used-after C K s used i p d h) (rw size (omega arith)) (all-sound (g .sound) (left-in-use s used i (ok .left)) hit w)
+      good-by _ used _ (used-after C K s used i p d h) (rw size (omega arith)) (all-sound (g .sound) (left-in-use s used i (ok .left)) w hit)
 
   pub good-cut : (s : S) (used i : ℕ) (p : P) → Good C K s used → Good C K (cut C K s used i p .store) (cut C K s used i p .used)
   unfolding cut

@@ -1,0 +1,168 @@
+// The queue of waiting events: the first n places of an array, the next event last.
+ghost use mathlib.Core.Path.{_≡_};
+ghost use Prim.Native.Nat.{_-_, _≤_};
+ghost use lib.ListN.{length, take};
+ghost use Rattle.events.specs.Pool.{pool, stored};
+ghost use Rattle.events.specs.Store.{look};
+ghost use Rattle.checks.specs.Checks.{maxEvents};
+ghost use Rattle.waiting.specs.Waiting.{flagged, beforeUsed};
+ghost use Rattle.waiting.specs.Queue as Queue;
+use events::pool::read_used;
+use lists::insert_at;
+use lists::remove_at;
+use status::slot_of;
+use waiting::is_waiting;
+use waiting::leads;
+
+// The place of a new member, by halving.
+fn place_of(
+    points: &[[f64; 2]],
+    marks: &[[u32; 12]],
+    used: u32,
+    queue: &[u32],
+    n: u32,
+    x: u32,
+) -> usize
+    requires { ⌜ (n ≤ length (now queue)) × (length (now queue) ≤ maxEvents) ⌝ }
+    ensures { λ r. ⌜ r ≡ Queue.place (beforeUsed (pool (now (points .entry)) (now (marks .entry))) used) (take n (now (queue .entry))) x ⌝ }
+    ensures { λ r. ⌜ r ≤ n ⌝ }
+{
+    let mut lo = 0;
+    let mut hi = n as usize;
+    while lo < hi {
+        let m = (lo + hi) / 2;
+        if leads(points, marks, used, queue[m], x) {
+            hi = m;
+        } else {
+            lo = m + 1;
+        }
+    }
+    lo
+}
+
+// Puts x in, where there is room.
+fn put(
+    points: &[[f64; 2]],
+    marks: &[[u32; 12]],
+    used: u32,
+    queue: &mut [u32],
+    n: u32,
+    x: u32,
+) -> u32
+    requires { ⌜ (n ≤ length (now queue)) × (length (now queue) ≤ maxEvents) ⌝ }
+    ensures { λ r. ⌜ take r (now (queue .exit)) ≡ Queue.put (beforeUsed (pool (now (points .entry)) (now (marks .entry))) used) (length (now (queue .entry))) (take n (now (queue .entry))) x ⌝ }
+    ensures { λ r. ⌜ r ≤ length (now (queue .exit)) ⌝ }
+{
+    let end = n as usize;
+    if queue.len() <= end {
+        return n;
+    }
+    let at = place_of(points, marks, used, queue, n, x);
+    insert_at(queue, end, at, x);
+    n + 1
+}
+
+// Takes number o out, if it is a member.
+fn take_out(queue: &mut [u32], n: u32, o: u32) -> u32
+    requires { ⌜ n ≤ length (now queue) ⌝ }
+    ensures { λ r. ⌜ take r (now (queue .exit)) ≡ Queue.without (take n (now (queue .entry))) o ⌝ }
+    ensures { λ r. ⌜ r ≤ length (now (queue .exit)) ⌝ }
+{
+    let end = n as usize;
+    let at = slot_of(queue, end, o);
+    if end <= at {
+        return n;
+    }
+    remove_at(queue, end, at);
+    n - 1
+}
+
+// The partners of the records from `from` on are taken out.
+fn evict(
+    points: &[[f64; 2]],
+    marks: &[[u32; 12]],
+    from: u32,
+    used: u32,
+    queue: &mut [u32],
+    n: u32,
+) -> u32
+    requires { ⌜ n ≤ length (now queue) ⌝ }
+    ensures { λ r. ⌜ take r (now (queue .exit)) ≡ Queue.evicted (λ i. look stored (pool (now (points .entry)) (now (marks .entry))) used i .partner) from (used - from) (take n (now (queue .entry))) ⌝ }
+    ensures { λ r. ⌜ r ≤ length (now (queue .exit)) ⌝ }
+{
+    let mut last = n;
+    let mut r = from;
+    while r < used {
+        let f = read_used(points, marks, used, r);
+        last = take_out(queue, last, f.partner);
+        r += 1;
+    }
+    last
+}
+
+// Record r is put in, and its partner if that is older than `from` and waits.
+fn admit(
+    points: &[[f64; 2]],
+    marks: &[[u32; 12]],
+    waits: &[bool],
+    from: u32,
+    used: u32,
+    queue: &mut [u32],
+    n: u32,
+    r: u32,
+) -> u32
+    requires { ⌜ (n ≤ length (now queue)) × (length (now queue) ≤ maxEvents) ⌝ }
+    ensures { λ x. ⌜ take x (now (queue .exit)) ≡ Queue.admit (λ i. look stored (pool (now (points .entry)) (now (marks .entry))) used i .partner) from (flagged (now (waits .entry))) (beforeUsed (pool (now (points .entry)) (now (marks .entry))) used) (length (now (queue .entry))) (take n (now (queue .entry))) r ⌝ }
+    ensures { λ x. ⌜ x ≤ length (now (queue .exit)) ⌝ }
+{
+    let f = read_used(points, marks, used, r);
+    let o = f.partner;
+    let m = put(points, marks, used, queue, n, r);
+    if o < from {
+        if is_waiting(waits, o) {
+            return put(points, marks, used, queue, m, o);
+        }
+    }
+    m
+}
+
+// The records from `from` on are put in.
+fn admit_all(
+    points: &[[f64; 2]],
+    marks: &[[u32; 12]],
+    waits: &[bool],
+    from: u32,
+    used: u32,
+    queue: &mut [u32],
+    n: u32,
+) -> u32
+    requires { ⌜ (n ≤ length (now queue)) × (length (now queue) ≤ maxEvents) ⌝ }
+    ensures { λ x. ⌜ take x (now (queue .exit)) ≡ Queue.admitted (λ i. look stored (pool (now (points .entry)) (now (marks .entry))) used i .partner) from (flagged (now (waits .entry))) (beforeUsed (pool (now (points .entry)) (now (marks .entry))) used) (length (now (queue .entry))) (used - from) (take n (now (queue .entry))) ⌝ }
+    ensures { λ x. ⌜ x ≤ length (now (queue .exit)) ⌝ }
+{
+    let mut last = n;
+    let mut r = from;
+    while r < used {
+        last = admit(points, marks, waits, from, used, queue, last, r);
+        r += 1;
+    }
+    last
+}
+
+// After a step in which the places from `from` up to `used` came into use.
+pub fn requeue(
+    points: &[[f64; 2]],
+    marks: &[[u32; 12]],
+    waits: &[bool],
+    from: u32,
+    used: u32,
+    queue: &mut [u32],
+    n: u32,
+) -> u32
+    requires { ⌜ (n ≤ length (now queue)) × (length (now queue) ≤ maxEvents) ⌝ }
+    ensures { λ x. ⌜ take x (now (queue .exit)) ≡ Queue.requeued (λ i. look stored (pool (now (points .entry)) (now (marks .entry))) used i .partner) from (flagged (now (waits .entry))) (beforeUsed (pool (now (points .entry)) (now (marks .entry))) used) (length (now (queue .entry))) (used - from) (take n (now (queue .entry))) ⌝ }
+    ensures { λ x. ⌜ x ≤ length (now (queue .exit)) ⌝ }
+{
+    let m = evict(points, marks, from, used, queue, n);
+    admit_all(points, marks, waits, from, used, queue, m)
+}
