@@ -1,3 +1,4 @@
 -- Segment order over any kind of coordinate and any crossing, and of two records of a pool.
 pub mod Segments
 pub mod OnPool
+pub mod Quick

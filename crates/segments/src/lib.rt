@@ -1,4 +1,6 @@
 // Segment order (`compare_segments.rs`): which of two segments of the status lies below.
+mod quick;
+
 ghost use mathlib.Core.Path.{_≡_};
 ghost use mathlib.Core.Bool.{Bool};
 ghost use Rattle.events.specs.Binary64.{binary64, plain, crossOf};
@@ -16,6 +18,8 @@ use order::before;
 use order::key_at;
 use orientation::Sign;
 use orientation::signed_area;
+use quick::is_beside;
+use quick::is_under;
 
 pub enum Ordering {
     Less,
@@ -129,10 +133,21 @@ fn is_below(old: Key, new: Key) -> bool
     is_below_apart(old, new, sa_l, sa_r)
 }
 
-// Of two left records that are not one: the one that comes first in event order is the older.
+// Of two left records that are not one: the one that comes first in event order is the older. Where the second is, and the boxes lie apart, they decide.
 pub fn compare_segments(a: Key, b: Key) -> Ordering
     ensures { λ r. ⌜ r ≡ Segments.compareSegments binary64 plain (shownKey a) (shownKey b) ⌝ }
 {
+    if is_beside(b, a) {
+        if is_under(b, a) {
+            return Ordering::Greater;
+        }
+        // at one x the lower one is the older
+        if b.point.x < a.point.x {
+            if is_under(a, b) {
+                return Ordering::Less;
+            }
+        }
+    }
     if before(a, b) {
         return less_if(is_below(a, b));
     }

@@ -1,0 +1,4 @@
+-- Laws of segment order.
+pub mod Heights
+pub mod Boxes
+pub mod Certain
