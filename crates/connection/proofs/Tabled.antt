@@ -25,17 +25,13 @@ use Rattle.connection.specs.Connection.{Lent, After}
 use Rattle.connection.specs.Steps.{Small, Spacious, laidDown, connectAccepted}
 use Rattle.connection.proofs.Traced.{traced-is}
 
--- the sizes that the checks leave are enough
-has-room : (p : Pool) (list o q ms : List ℕ) (t : Rows) → Small p list → Spacious o q t ms → roomy p list o q t ≡ true
+-- within the limit, and with these arrays
+has-room : (p : Pool) (list o q ms : List ℕ) (t : Rows) → Small p list → Spacious p list o q t ms → roomy p list o q t ≡ true
 unfolding hasRoom
 has-room p list o q ms t s w =
-    let order : length list ≤ length o = omega (arith, s .list-is, w .order) in
-    let places : length (p .points) ≤ length q = omega (arith, s .pool-is, w .places) in
-    let rows : length list ≤ length (t .rows) = omega (arith, s .list-is, w .rows) in
-    let at : length list ≤ length (t .at) = omega (arith, s .list-is, w .points) in
     rw
-    (le-ltb maxEvents (length list) (s .list-is), le-ltb (length o) (length list) order, le-ltb (length q) (length (p .points)) places, le-ltb (length (t .rows)) (length list) rows)
-    (le-leb (length list) (length (t .at)) at)
+    (le-ltb maxEvents (length list) (s .list-is), le-ltb (length o) (length list) (w .order), le-ltb (length q) (length (p .points)) (w .places), le-ltb (length (t .rows)) (length list) (w .rows))
+    (le-leb (length list) (length (t .at)) (w .points))
 
 size-most : (p : Pool) → size p ≤ length (p .points)
 unfolding size
@@ -45,12 +41,12 @@ within : {A : Type 0} (n : ℕ) (l : List A) → length (take n l) ≡ n → n �
 within n l e = omega (arith, e, length-take n l)
 
 -- o′, q′ and t′ are the arrays after `tabulate`, n the size that it told
-module _ (p : Pool) (list o q o′ q′ ms : List ℕ) (t t′ : Rows) (n : ℕ) (s : Small p list) (w : Spacious o q t ms) (e : tabulated o′ q′ t′ n ≡ tabulate p list o q t) where
+module _ (p : Pool) (list o q o′ q′ ms : List ℕ) (t t′ : Rows) (n : ℕ) (s : Small p list) (w : Spacious p list o q t ms) (e : tabulated o′ q′ t′ n ≡ tabulate p list o q t) where
   st : Stands p list o′ q′ t′ n
   st = stands p list o q o′ q′ t t′ n (has-room p list o q ms t s w) e
 
-  few : length (tableIn p list) ≤ maxEvents
-  few = omega (arith, s .list-is, count-most p list, size-table p list)
+  few : length (tableIn p list) ≤ length list
+  few = omega (arith, count-most p list, size-table p list)
 
   pub in-order : n ≤ length o′
   in-order = within n o′ (ap length (st .ordered) ∙ sym (size-table p list) ∙ sym (st .size))
@@ -68,7 +64,7 @@ module _ (p : Pool) (list o q o′ q′ ms : List ℕ) (t t′ : Rows) (n : ℕ)
     in-places : (r : ℕ) → r < size p → getD q′ r 0 ≡ place (ordered (rowAt p) binary64 list) r
     unfolding placeIn orderedIn
     in-places r h =
-        let l : r < length q′ = omega (arith, size-most p, s .pool-is, w .places) in
+        let l : r < length q′ = omega (arith, size-most p, w .places) in
         sym (ap (λ (b : Bool). cond b (getD q′ r 0) n) (lt-ltb r (length q′) l)) ∙ st .placed r
 
     -- what the steps make of the first n places
@@ -77,8 +73,8 @@ module _ (p : Pool) (list o q o′ q′ ms : List ℕ) (t t′ : Rows) (n : ℕ)
     laid-is l x f =
         f
         ∙ ap (λ (y : List ℕ). laidDown y q′ p (tracedOn T M (l .corners) (l .contours) (l .holes))) (st .ordered)
-        ∙ ap (laidDown (orderedIn p list) q′ p) (of-table T (tableIn p list) M (l .corners) (l .contours) (l .holes) (st .rows ∙ st .size) (st .row) few marks)
-        ∙ traced-is p list q′ l (omega (arith, size-most p, s .pool-is, w .places)) in-places
+        ∙ ap (laidDown (orderedIn p list) q′ p) (of-table T (tableIn p list) M (l .corners) (l .contours) (l .holes) (st .rows ∙ st .size) (st .row) (omega (arith, few, s .list-is)) marks)
+        ∙ traced-is p list q′ l (omega (arith, size-most p, w .places)) in-places
       where
         T : Rows
         T = R.lent (take n (t′ .rows)) (take n (t′ .at))

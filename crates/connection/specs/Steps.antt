@@ -40,13 +40,13 @@ pub record Small (p : Pool) (list : List ℕ) : Type 0 where
   pub list-is : length list ≤ maxEvents
   pub pool-is : length (p .points) ≤ maxEvents
 
--- arrays for any table
-pub record Spacious (o q : List ℕ) (t : Rows) (ms : List ℕ) : Type 0 where
-  pub order : maxEvents ≤ length o
-  pub places : maxEvents ≤ length q
-  pub rows : maxEvents ≤ length (t .rows)
-  pub points : maxEvents ≤ length (t .at)
-  pub walked : maxEvents ≤ length ms
+-- arrays with a place for each of its entries; the places, for each record of the pool
+pub record Spacious (p : Pool) (list o q : List ℕ) (t : Rows) (ms : List ℕ) : Type 0 where
+  pub order : length list ≤ length o
+  pub places : length (p .points) ≤ length q
+  pub rows : length list ≤ length (t .rows)
+  pub points : length list ≤ length (t .at)
+  pub walked : length list ≤ length ms
 
 unfoldable pub connectAccepted : Pool → List ℕ → Lent → After
 connectAccepted p list l = after (outcomeOf binary64 stored p list (traced binary64 stored p list)) p l

@@ -1,5 +1,7 @@
 // Connection of a list that has passed the checks, by way of its table.
 ghost use mathlib.Core.Path.{_≡_};
+ghost use Prim.Native.Nat.{_≤_};
+ghost use lib.ListN.{length};
 ghost use Rattle.events.specs.Pool.{pool};
 ghost use Rattle.rows.specs.Rows as R;
 ghost use Rattle.tracing.specs.Tracing.{tracedOn};
@@ -10,6 +12,7 @@ use crate::answer::answer_of;
 use checks::sizes::MAX_EVENTS;
 use numbering::settle;
 use tabulation::tabulate;
+use tracing::FEW;
 use tracing::trace;
 
 // The table stands: `order` and `places` tell records by positions and positions by records.
@@ -46,7 +49,7 @@ fn connect_in(
     at: &mut [[f64; 2]],
     walked: &mut [u32],
 ) -> Connected
-    requires { ⌜ Small (pool (now points) (now marks)) (now list) × Spacious (now order) (now places) (R.lent (now rows) (now at)) (now walked) ⌝ }
+    requires { ⌜ Small (pool (now points) (now marks)) (now list) × Spacious (pool (now points) (now marks)) (now list) (now order) (now places) (R.lent (now rows) (now at)) (now walked) ⌝ }
     ensures { λ r. ⌜ left r (pool (now (points .entry)) (now (marks .exit))) (lent (now (corners .exit)) (now (contours .exit)) (now (holes .exit))) ≡ connectAccepted (pool (now (points .entry)) (now (marks .entry))) (now (list .entry)) (lent (now (corners .entry)) (now (contours .entry)) (now (holes .entry))) ⌝ }
 {
     let n = tabulate(points, marks, list, order, places, rows, at);
@@ -64,8 +67,42 @@ fn connect_in(
     )
 }
 
-// With places for any table.
-pub fn connect_accepted(
+// With places for a short list, of a pool of any size.
+fn connect_few(
+    points: &[[f64; 2]],
+    marks: &mut [[u32; 12]],
+    list: &[u32],
+    corners: &mut [[f64; 2]],
+    contours: &mut [[u32; 6]],
+    holes: &mut [u32],
+) -> Connected
+    requires { ⌜ Small (pool (now points) (now marks)) (now list) × (length (now list) ≤ 256) ⌝ }
+    ensures { λ r. ⌜ left r (pool (now (points .entry)) (now (marks .exit))) (lent (now (corners .exit)) (now (contours .exit)) (now (holes .exit))) ≡ connectAccepted (pool (now (points .entry)) (now (marks .entry))) (now (list .entry)) (lent (now (corners .entry)) (now (contours .entry)) (now (holes .entry))) ⌝ }
+{
+    let mut order = [0u32; FEW];
+    let mut places = [0u32; MAX_EVENTS];
+    let row = [0u32; 4];
+    let mut rows = [row; FEW];
+    let point = [0.0; 2];
+    let mut at = [point; FEW];
+    let mut walked = [0u32; FEW];
+    connect_in(
+        points,
+        marks,
+        list,
+        corners,
+        contours,
+        holes,
+        &mut order,
+        &mut places,
+        &mut rows,
+        &mut at,
+        &mut walked,
+    )
+}
+
+// With places for any list.
+fn connect_many(
     points: &[[f64; 2]],
     marks: &mut [[u32; 12]],
     list: &[u32],
@@ -96,4 +133,22 @@ pub fn connect_accepted(
         &mut at,
         &mut walked,
     )
+}
+
+// Short lists are most, and to clear places for any takes longer than to connect them.
+pub fn connect_accepted(
+    points: &[[f64; 2]],
+    marks: &mut [[u32; 12]],
+    list: &[u32],
+    corners: &mut [[f64; 2]],
+    contours: &mut [[u32; 6]],
+    holes: &mut [u32],
+) -> Connected
+    requires { ⌜ Small (pool (now points) (now marks)) (now list) ⌝ }
+    ensures { λ r. ⌜ left r (pool (now (points .entry)) (now (marks .exit))) (lent (now (corners .exit)) (now (contours .exit)) (now (holes .exit))) ≡ connectAccepted (pool (now (points .entry)) (now (marks .entry))) (now (list .entry)) (lent (now (corners .entry)) (now (contours .entry)) (now (holes .entry))) ⌝ }
+{
+    if list.len() <= FEW {
+        return connect_few(points, marks, list, corners, contours, holes);
+    }
+    connect_many(points, marks, list, corners, contours, holes)
 }

@@ -1,3 +1,5 @@
 -- Laws of the search round a point.
 pub mod Found
 pub mod Round
+pub mod Blocks
+pub mod InOrder

@@ -6,6 +6,7 @@ use Prim.Native.Nat.{ℕ, zero, suc, _+_, _-_, _≤_, _<_}
 use native.Mathlib.Numerals.{add-one}
 use native.Mathlib.Nat.{sub-zero}
 use native.Mathlib.Omega.{arith}
+use borrow.Author.Tests.{le-ltb, lt-ltb, not-true, not-false}
 use lib.ListN.{length, getD, List·getD-eq-default}
 use Rattle.numbers.specs.declared.Coordinate.{Coordinate}
 use Rattle.events.specs.Coordinates.{same}
@@ -15,7 +16,8 @@ use Rattle.contours.specs.Round.{up, down, isOpen, seek, rights, lefts, tries}
 use Rattle.rows.specs.declared.End.{End}
 use Rattle.rows.specs.Rows.{Rows, size, pointAt, endAt, tableRow, rowOf}
 use Rattle.rows.proofs.Lists.{getD-any}
-use Rattle.round.specs.Round.{found, markIn, nextPos, fitting, rightEnds, leftEnds, rightsFrom, leftsFrom, fromLeft, fromRight}
+use Rattle.round.specs.Block.{blockStart, blockEnd}
+use Rattle.round.specs.Round.{found, markIn, rightEnds, leftEnds, triesIn, around, tried, nextPos, fitting, rightsFrom, leftsFrom, fromLeft, fromRight, nextIn}
 use Rattle.round.proofs.Found.{in-first, in-next, in-last}
 
 -- ---- one mark
@@ -123,42 +125,69 @@ module _ (t : Rows) (ms : List ℕ) (p : Coordinate) where
 
   -- ---- round the point, from q
 
-  module _ (q a : ℕ) where
-    module _ (e : a ≡ leftsFrom t ms p 0 (q - 0)) where
-      pub left-1 : a < length ms → a ≡ fromLeft t ms p q
+  module _ (lo hi q a : ℕ) where
+    module _ (e : a ≡ leftsFrom t ms p lo (q - lo)) where
+      pub left-1 : a < length ms → a ≡ fromLeft t ms p lo hi q
       unfolding fromLeft leftsFrom
-      left-1 h = in-first ms (leftEnds t ms p 0 q) (rightEnds t ms p 0 (size t)) (leftEnds t ms p (q + 1) (size t - (q + 1))) a (rw sub-zero at e) h
+      left-1 h = in-first ms (leftEnds t p lo (q - lo)) (rightEnds t p lo (hi - lo)) (leftEnds t p (q + 1) (hi - (q + 1))) a e h
 
-      module _ (h : length ms ≤ a) (b : ℕ) (f : b ≡ rightsFrom t ms p 0 (size t - 0)) where
-        pub left-2 : b < length ms → b ≡ fromLeft t ms p q
+      module _ (h : length ms ≤ a) (b : ℕ) (f : b ≡ rightsFrom t ms p lo (hi - lo)) where
+        pub left-2 : b < length ms → b ≡ fromLeft t ms p lo hi q
         unfolding fromLeft leftsFrom rightsFrom
-        left-2 g = in-next ms _ _ _ a (rw sub-zero at e) h b (rw sub-zero at f) g
+        left-2 g = in-next ms _ _ _ a e h b f g
 
-        pub left-3 : length ms ≤ b → (r : ℕ) → r ≡ leftsFrom t ms p (q + 1) (size t - (q + 1)) → r ≡ fromLeft t ms p q
+        pub left-3 : length ms ≤ b → (r : ℕ) → r ≡ leftsFrom t ms p (q + 1) (hi - (q + 1)) → r ≡ fromLeft t ms p lo hi q
         unfolding fromLeft leftsFrom rightsFrom
-        left-3 g r k = in-last ms _ _ _ a (rw sub-zero at e) h b (rw sub-zero at f) g r k
+        left-3 g r k = in-last ms _ _ _ a e h b f g r k
 
-    module _ (e : a ≡ rightsFrom t ms p (q + 1) (size t - (q + 1))) where
-      pub right-1 : a < length ms → a ≡ fromRight t ms p q
+    module _ (e : a ≡ rightsFrom t ms p (q + 1) (hi - (q + 1))) where
+      pub right-1 : a < length ms → a ≡ fromRight t ms p lo hi q
       unfolding fromRight rightsFrom
-      right-1 h = in-first ms (rightEnds t ms p (q + 1) (size t - (q + 1))) (leftEnds t ms p 0 (size t)) (rightEnds t ms p 0 q) a e h
+      right-1 h = in-first ms (rightEnds t p (q + 1) (hi - (q + 1))) (leftEnds t p lo (hi - lo)) (rightEnds t p lo (q - lo)) a e h
 
-      module _ (h : length ms ≤ a) (b : ℕ) (f : b ≡ leftsFrom t ms p 0 (size t - 0)) where
-        pub right-2 : b < length ms → b ≡ fromRight t ms p q
+      module _ (h : length ms ≤ a) (b : ℕ) (f : b ≡ leftsFrom t ms p lo (hi - lo)) where
+        pub right-2 : b < length ms → b ≡ fromRight t ms p lo hi q
         unfolding fromRight leftsFrom rightsFrom
-        right-2 g = in-next ms _ _ _ a e h b (rw sub-zero at f) g
+        right-2 g = in-next ms _ _ _ a e h b f g
 
-        pub right-3 : length ms ≤ b → (r : ℕ) → r ≡ rightsFrom t ms p 0 (q - 0) → r ≡ fromRight t ms p q
+        pub right-3 : length ms ≤ b → (r : ℕ) → r ≡ rightsFrom t ms p lo (q - lo) → r ≡ fromRight t ms p lo hi q
         unfolding fromRight leftsFrom rightsFrom
-        right-3 g r k = in-last ms _ _ _ a e h b (rw sub-zero at f) g r (rw sub-zero at k)
+        right-3 g r k = in-last ms _ _ _ a e h b f g r k
+
+  module _ (lo hi q : ℕ) (e : End) (b : e ≡ endAt t q) where
+    pub next-left : e .left ≡ true → (r : ℕ) → r ≡ fromLeft t ms p lo hi q → r ≡ nextIn t ms p lo hi q
+    unfolding nextIn triesIn fromLeft
+    next-left c r d = rw (← b, c) d
+
+    pub next-right : e .left ≡ false → (r : ℕ) → r ≡ fromRight t ms p lo hi q → r ≡ nextIn t ms p lo hi q
+    unfolding nextIn triesIn fromRight
+    next-right c r d = rw (← b, c) d
 
 -- ---- the next position
 
-module _ (t : Rows) (ms : List ℕ) (q : ℕ) (p : Coordinate) (a : p ≡ pointAt t q) (e : End) (b : e ≡ endAt t q) where
-  pub next-left : e .left ≡ true → (r : ℕ) → r ≡ fromLeft t ms p q → r ≡ nextPos t ms q
-  unfolding nextPos tries tableRow rowOf fromLeft
-  next-left c r d = rw (← b, c, ← a) d
+-- the whole table as a run of rows
+pub tries-all : (t : Rows) (q : ℕ) → triesIn t (pointAt t q) 0 (size t) q ≡ tries (same binary64) (size t) (tableRow t) q
+unfolding triesIn tries tableRow rowOf
+tries-all t q = rw (sub-zero q, sub-zero (size t))
 
-  pub next-right : e .left ≡ false → (r : ℕ) → r ≡ fromRight t ms p q → r ≡ nextPos t ms q
-  unfolding nextPos tries tableRow rowOf fromRight
-  next-right c r d = rw (← b, c, ← a) d
+module _ (t : Rows) (ms : List ℕ) (q : ℕ) (p : Coordinate) (a : p ≡ pointAt t q) where
+  all-is : nextIn t ms p 0 (size t) q ≡ found (length ms) (seek ms (tries (same binary64) (size t) (tableRow t) q))
+  unfolding nextIn
+  all-is = rw (a, tries-all t q)
+
+  pub next-all : (near : Bool) → not near ≡ true → (r : ℕ) → r ≡ nextIn t ms p 0 (size t) q → r ≡ nextPos t near ms q
+  unfolding nextPos tried
+  next-all near h r d = rw (not-true near h) (d ∙ all-is)
+
+  pub next-beyond : (near : Bool) → size t ≤ q → (r : ℕ) → r ≡ nextIn t ms p 0 (size t) q → r ≡ nextPos t near ms q
+  unfolding nextPos tried
+  next-beyond near h r d = rw (le-ltb q (size t) h) (go near)
+    where
+      go : (b : Bool) → r ≡ found (length ms) (seek ms (cond (b && false) (around t q) (tries (same binary64) (size t) (tableRow t) q)))
+      go true = d ∙ all-is
+      go false = d ∙ all-is
+
+  pub next-near : (near : Bool) → not near ≡ false → q < size t → (lo hi : ℕ) → lo ≡ blockStart (t .at) p q → hi ≡ blockEnd (t .at) p (q + 1) (size t - (q + 1))
+      → (r : ℕ) → r ≡ nextIn t ms p lo hi q → r ≡ nextPos t near ms q
+  unfolding nextPos tried around nextIn
+  next-near near h l lo hi f g r d = rw (not-false near h, lt-ltb q (size t) l, ← a, ← f, ← g) d

@@ -4,11 +4,15 @@ ghost use mathlib.Core.Path.{_≡_};
 ghost use mathlib.Core.Bool.{true, false};
 ghost use Prim.Native.Nat.{_-_, _<_};
 ghost use Rattle.rows.specs.Rows.{lent};
-ghost use Rattle.round.specs.Round.{markIn, fitting, rightsFrom, leftsFrom, fromLeft, fromRight, nextPos};
+ghost use Rattle.round.specs.Round.{markIn, fitting, rightsFrom, leftsFrom, fromLeft, fromRight, nextIn, nextPos};
+use block::block_end;
+use block::block_start;
 use events::points::same_point;
 use numbers::Coordinate;
 use rows::end_at;
 use rows::point_at;
+
+pub mod block;
 
 // One outside the marks counts as walked.
 pub fn mark_at(marks: &[u32], i: usize) -> u32
@@ -84,47 +88,88 @@ fn seek_down(
     marks.len()
 }
 
-fn from_left(rows: &[[u32; 4]], at: &[[f64; 2]], marks: &[u32], p: Coordinate, q: usize) -> usize
+// From a left end at q, among the rows from lo up to and not with hi.
+fn from_left(
+    rows: &[[u32; 4]],
+    at: &[[f64; 2]],
+    marks: &[u32],
+    p: Coordinate,
+    lo: usize,
+    hi: usize,
+    q: usize,
+) -> usize
     requires { ⌜ q < 4294967296 ⌝ }
-    ensures { λ r. ⌜ r ≡ fromLeft (lent (now (rows .entry)) (now (at .entry))) (now (marks .entry)) p q ⌝ }
+    ensures { λ r. ⌜ r ≡ fromLeft (lent (now (rows .entry)) (now (at .entry))) (now (marks .entry)) p lo hi q ⌝ }
 {
-    let n = rows.len();
-    let a = seek_down(rows, at, marks, p, 0, q);
+    let a = seek_down(rows, at, marks, p, lo, q);
     if a < marks.len() {
         return a;
     }
-    let b = seek_up(rows, at, marks, p, 0, n);
+    let b = seek_up(rows, at, marks, p, lo, hi);
     if b < marks.len() {
         return b;
     }
-    seek_down(rows, at, marks, p, q + 1, n)
+    seek_down(rows, at, marks, p, q + 1, hi)
 }
 
-fn from_right(rows: &[[u32; 4]], at: &[[f64; 2]], marks: &[u32], p: Coordinate, q: usize) -> usize
+// From a right end at q.
+fn from_right(
+    rows: &[[u32; 4]],
+    at: &[[f64; 2]],
+    marks: &[u32],
+    p: Coordinate,
+    lo: usize,
+    hi: usize,
+    q: usize,
+) -> usize
     requires { ⌜ q < 4294967296 ⌝ }
-    ensures { λ r. ⌜ r ≡ fromRight (lent (now (rows .entry)) (now (at .entry))) (now (marks .entry)) p q ⌝ }
+    ensures { λ r. ⌜ r ≡ fromRight (lent (now (rows .entry)) (now (at .entry))) (now (marks .entry)) p lo hi q ⌝ }
 {
-    let n = rows.len();
-    let a = seek_up(rows, at, marks, p, q + 1, n);
+    let a = seek_up(rows, at, marks, p, q + 1, hi);
     if a < marks.len() {
         return a;
     }
-    let b = seek_down(rows, at, marks, p, 0, n);
+    let b = seek_down(rows, at, marks, p, lo, hi);
     if b < marks.len() {
         return b;
     }
-    seek_up(rows, at, marks, p, 0, q)
+    seek_up(rows, at, marks, p, lo, q)
 }
 
-// The next open end round the point of the end at q.
-pub fn next_pos(rows: &[[u32; 4]], at: &[[f64; 2]], marks: &[u32], q: u32) -> usize
-    ensures { λ r. ⌜ r ≡ nextPos (lent (now (rows .entry)) (now (at .entry))) (now (marks .entry)) q ⌝ }
+// From the end at q, at the point p.
+fn next_in(
+    rows: &[[u32; 4]],
+    at: &[[f64; 2]],
+    marks: &[u32],
+    p: Coordinate,
+    lo: usize,
+    hi: usize,
+    q: usize,
+) -> usize
+    requires { ⌜ q < 4294967296 ⌝ }
+    ensures { λ r. ⌜ r ≡ nextIn (lent (now (rows .entry)) (now (at .entry))) (now (marks .entry)) p lo hi q ⌝ }
+{
+    let end = end_at(rows, q);
+    if end.left {
+        return from_left(rows, at, marks, p, lo, hi, q);
+    }
+    from_right(rows, at, marks, p, lo, hi, q)
+}
+
+// The next open end round the point of the end at q: by all rows, or, where near, by those around q that have its point.
+pub fn next_pos(rows: &[[u32; 4]], at: &[[f64; 2]], marks: &[u32], near: bool, q: u32) -> usize
+    ensures { λ r. ⌜ r ≡ nextPos (lent (now (rows .entry)) (now (at .entry))) near (now (marks .entry)) q ⌝ }
 {
     let i = q as usize;
+    let n = rows.len();
     let p = point_at(at, i);
-    let end = end_at(rows, i);
-    if end.left {
-        return from_left(rows, at, marks, p, i);
+    if !near {
+        return next_in(rows, at, marks, p, 0, n, i);
     }
-    from_right(rows, at, marks, p, i)
+    if n <= i {
+        return next_in(rows, at, marks, p, 0, n, i);
+    }
+    let lo = block_start(at, p, i);
+    let hi = block_end(at, p, i + 1, n);
+    next_in(rows, at, marks, p, lo, hi, i)
 }

@@ -19,11 +19,15 @@ use Rattle.checks.specs.Checks.{maxEvents}
 use Rattle.contours.specs.Result.{keep}
 use Rattle.contours.specs.Table.{Below}
 use Rattle.contours.specs.Round.{isOpen}
+use Rattle.contours.specs.Walk.{walk}
 use Rattle.contours.specs.Contours.{Contour, contour, Answer, halted, Place, refuse, placed, hole, under, loose, owned, context, turn, make, turns, trace}
 use Rattle.rows.specs.Rows.{Rows, size, endAt, belowOf, tableRow, rowOf}
 use Rattle.rows.proofs.Lists.{sets-append}
+use Rattle.round.specs.Block.{inOrder}
 use Rattle.round.specs.Round.{markIn}
+use Rattle.round.proofs.InOrder.{tried-is}
 use Rattle.walks.specs.Walks.{trailFrom, cornersOf, unclosedTrail, marksOf, walkedAlong, walkedFrom}
+use Rattle.walks.proofs.Walks.{trail-from}
 use Rattle.starts.specs.declared.Turn.{Turn}
 use Rattle.starts.specs.declared.context.Place.{Place as Found}
 use Rattle.starts.specs.Starts.{Sheet, sheet, turnOf, codeOf, allCorners, nestOf, nestsFrom, unclosedCount, sheetOf, answerOf, fits, tracedOn}
@@ -129,14 +133,14 @@ sheets a b c d = rw (a, b, c, d)
 turns-eq : {c c′ e e′ u u′ : ℕ} (s p : ℕ) → c ≡ c′ → e ≡ e′ → u ≡ u′ → turnOf c e u s p ≡ turnOf c′ e′ u′ s p
 turns-eq s p a b d = rw (a, b, d)
 
-module _ (t : Rows) (out : List (List Float)) (ns : List (List ℕ)) where
+module _ (t : Rows) (near : Bool) (out : List (List Float)) (ns : List (List ℕ)) where
   made-is : (ms : List ℕ) (cs : List Contour) (i : ℕ) (p : Option ℕ) (d : ℕ)
-      → madeAt t (sheetOf t out ns ms cs 0 0) i (codeOf p) d ≡ sheetOf t out ns (marksOf t (length cs) ms (trailFrom t (length cs) i ms)) (cs ++ (contour (trailFrom t (length cs) i ms) p d ∷ [])) 0 0
+      → madeAt t near (sheetOf t out ns ms cs 0 0) i (codeOf p) d ≡ sheetOf t out ns (marksOf t (length cs) ms (trailFrom t near (length cs) i ms)) (cs ++ (contour (trailFrom t near (length cs) i ms) p d ∷ [])) 0 0
   unfolding madeAt ended sheetOf walkedFrom walkedAlong nestOf
   made-is ms cs i p d = sheets refl points places (turns-eq 0 0 count end (unclosed-snoc t cs k))
     where
       T : List ℕ
-      T = trailFrom t (length cs) i ms
+      T = trailFrom t near (length cs) i ms
 
       k : Contour
       k = contour T p d
@@ -165,48 +169,54 @@ module _ (t : Rows) (out : List (List Float)) (ns : List (List ℕ)) where
       end : e + length (cornersOf t T) ≡ length (allCorners t (cs ++ (k ∷ [])))
       end = sym (ap length (corners-snoc t cs k) ∙ length-append (allCorners t cs) (cornersOf t T))
 
-  starts-are : (k i : ℕ) (ms : List ℕ) (cs : List Contour) → length cs ≤ i → i + k ≡ size t → size t ≤ length ns
-      → starts t k i (sheetOf t out ns ms cs 0 0) ≡ answerOf t out ns (turns (same binary64) (size t) (tableRow t) k i ms cs)
-  unfolding starts startAt placeAt turns turn make isOpen answerOf sheetOf tableRow rowOf after markIn marksOf trailFrom
-  starts-are zero i ms cs a b c = refl
-  starts-are (suc k) i ms cs a b c =
-      ap next (ap (λ (f : Found). cond (eqb (getD ms i 1) 0) (placeAt t S i f) S) (context-is t ns cs (omega arith) ms (endAt t i .below) (endAt t i .«out_in»)))
-      ∙ go (getD ms i 1) (λ ms′ cs′ x. starts-are k (i + 1) ms′ cs′ x (omega arith) c)
-    where
-      S : Sheet
-      S = sheetOf t out ns ms cs 0 0
+  -- where the points stand in order if `near`
+  module _ (o : near ≡ inOrder (t .at) 0 (size t)) where
+    starts-are : (k i : ℕ) (ms : List ℕ) (cs : List Contour) → length cs ≤ i → i + k ≡ size t → size t ≤ length ns
+        → starts t near k i (sheetOf t out ns ms cs 0 0) ≡ answerOf t out ns (turns (same binary64) (size t) (tableRow t) k i ms cs)
+    unfolding starts startAt placeAt turns turn make isOpen answerOf sheetOf tableRow rowOf after markIn marksOf
+    starts-are zero i ms cs a b c = refl
+    starts-are (suc k) i ms cs a b c =
+        ap next (ap (λ (f : Found). cond (eqb (getD ms i 1) 0) (placeAt t near S i f) S) (context-is t ns cs (omega arith) ms (endAt t i .below) (endAt t i .«out_in»)))
+        ∙ go (getD ms i 1) (λ ms′ cs′ x. starts-are k (i + 1) ms′ cs′ x (omega arith) c)
+      where
+        S : Sheet
+        S = sheetOf t out ns ms cs 0 0
 
-      B : Below
-      B = belowOf (endAt t i .below) (endAt t i .«out_in»)
+        B : Below
+        B = belowOf (endAt t i .below) (endAt t i .«out_in»)
 
-      next : Sheet → Sheet
-      next s = after t (starts t k (i + 1)) s
+        next : Sheet → Sheet
+        next s = after t near (starts t near k (i + 1)) s
 
-      Rest : Type 0
-      Rest = (ms′ : List ℕ) (cs′ : List Contour) → length cs′ ≤ i + 1 → starts t k (i + 1) (sheetOf t out ns ms′ cs′ 0 0) ≡ answerOf t out ns (turns (same binary64) (size t) (tableRow t) k (i + 1) ms′ cs′)
+        Rest : Type 0
+        Rest = (ms′ : List ℕ) (cs′ : List Contour) → length cs′ ≤ i + 1 → starts t near k (i + 1) (sheetOf t out ns ms′ cs′ 0 0) ≡ answerOf t out ns (turns (same binary64) (size t) (tableRow t) k (i + 1) ms′ cs′)
 
-      T : List ℕ
-      T = trailFrom t (length cs) i ms
+        -- the contour's trail, as the definition has it
+        T : List ℕ
+        T = walk (same binary64) (size t) (tableRow t) (size t) (tableRow t i .point) (length cs) ms i
 
-      more : Option ℕ → ℕ → Answer
-      more p d = turns (same binary64) (size t) (tableRow t) k (i + 1) (marksOf t (length cs) ms T) (cs ++ (contour T p d ∷ []))
+        more : Option ℕ → ℕ → Answer
+        more p d = turns (same binary64) (size t) (tableRow t) k (i + 1) (marksOf t (length cs) ms T) (cs ++ (contour T p d ∷ []))
 
-      placing : (w : Place) → Rest → next (placeAt t S i (foundOf t ns cs (omega arith) w)) ≡ answerOf t out ns (make w (halted 9 i ms cs) more)
-      placing refuse r = refl
-      placing (placed p d) r = ap next (made-is ms cs i p d) ∙ r (marksOf t (length cs) ms T) (cs ++ (contour T p d ∷ [])) (omega (arith, length-append cs (contour T p d ∷ [])))
+        placing : (w : Place) → Rest → next (placeAt t near S i (foundOf t ns cs (omega arith) w)) ≡ answerOf t out ns (make w (halted 9 i ms cs) more)
+        placing refuse r = refl
+        placing (placed p d) r =
+            ap next (made-is ms cs i p d ∙ ap (λ (l : List ℕ). sheetOf t out ns (marksOf t (length cs) ms l) (cs ++ (contour l p d ∷ [])) 0 0) (trail-from t near (tried-is t near (λ h. sym o ∙ h)) (length cs) i ms))
+            ∙ r (marksOf t (length cs) ms T) (cs ++ (contour T p d ∷ [])) (omega (arith, length-append cs (contour T p d ∷ [])))
 
-      go : (m : ℕ) → Rest → next (cond (eqb m 0) (placeAt t S i (foundOf t ns cs (omega arith) (context ms cs B))) S)
-          ≡ answerOf t out ns (turn (isOpen m) (λ _. make (context ms cs B) (halted 9 i ms cs) more) (λ _. turns (same binary64) (size t) (tableRow t) k (i + 1) ms cs))
-      go zero r = placing (context ms cs B) r
-      go (suc m) r = rw (ne-eqb (suc m) 0 (λ z. omega arith)) (r ms cs (omega arith))
+        go : (m : ℕ) → Rest → next (cond (eqb m 0) (placeAt t near S i (foundOf t ns cs (omega arith) (context ms cs B))) S)
+            ≡ answerOf t out ns (turn (isOpen m) (λ _. make (context ms cs B) (halted 9 i ms cs) more) (λ _. turns (same binary64) (size t) (tableRow t) k (i + 1) ms cs))
+        go zero r = placing (context ms cs B) r
+        go (suc m) r = rw (ne-eqb (suc m) 0 (λ z. omega arith)) (r ms cs (omega arith))
 
-  -- from no mark at all
-  trace-is : size t ≤ length ns → starts t (size t) 0 (sheet (replicate (size t) 0) out ns (turnOf 0 0 0 0 0)) ≡ answerOf t out ns (trace (same binary64) (size t) (tableRow t))
-  unfolding trace sheetOf allCorners nestsFrom unclosedCount keep
-  trace-is h = starts-are (size t) 0 (replicate (size t) 0) [] (omega arith) (omega arith) h
+    -- from no mark at all
+    trace-is : size t ≤ length ns → starts t near (size t) 0 (sheet (replicate (size t) 0) out ns (turnOf 0 0 0 0 0)) ≡ answerOf t out ns (trace (same binary64) (size t) (tableRow t))
+    unfolding trace sheetOf allCorners nestsFrom unclosedCount keep
+    trace-is h = starts-are (size t) 0 (replicate (size t) 0) [] (omega arith) (omega arith) h
 
-  -- ---- the whole
+-- ---- the whole
 
+module _ (t : Rows) (out : List (List Float)) (ns : List (List ℕ)) where
   module _ (ms : List ℕ) where
     pub traced-long : maxEvents < size t → (s : Turn) → s ≡ turnOf 0 0 0 0 0 → sheet ms out ns s ≡ tracedOn t ms out ns
     unfolding tracedOn fits
@@ -222,6 +232,6 @@ module _ (t : Rows) (out : List (List Float)) (ns : List (List ℕ)) where
         unfolding tracedOn fits
         traced-narrow h s e = rw (e, le-leb (size t) maxEvents l, eq-eqb (length ms) (size t) m, lt-leb (size t) (length ns) h)
 
-        pub traced-whole : size t ≤ length ns → (ms′ : List ℕ) (w : Sheet) → ms′ ≡ replicate (length ms) 0 → w ≡ starts t (size t) 0 (sheet ms′ out ns (turnOf 0 0 0 0 0)) → w ≡ tracedOn t ms out ns
+        pub traced-whole : size t ≤ length ns → (near : Bool) (ms′ : List ℕ) (w : Sheet) → near ≡ inOrder (t .at) 0 (size t) → ms′ ≡ replicate (length ms) 0 → w ≡ starts t near (size t) 0 (sheet ms′ out ns (turnOf 0 0 0 0 0)) → w ≡ tracedOn t ms out ns
         unfolding tracedOn fits
-        traced-whole h ms′ w e f = rw (le-leb (size t) maxEvents l, eq-eqb (length ms) (size t) m, le-leb (size t) (length ns) h) (f ∙ rw (e, m) (trace-is h))
+        traced-whole h near ms′ w o e f = rw (le-leb (size t) maxEvents l, eq-eqb (length ms) (size t) m, le-leb (size t) (length ns) h) (f ∙ rw (e, m) (trace-is t near out ns o h))

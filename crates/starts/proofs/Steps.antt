@@ -107,15 +107,15 @@ shallow-up ns c b h s j = omega (arith, s j)
 
 -- ---- one contour
 
-pub made : (t : Rows) (ms ms′ : List ℕ) (out out′ : List (List Float)) (ns ns′ : List (List ℕ)) (s : Turn) (i p d u : ℕ) (w : Walk)
-    → toured ms′ out′ w ≡ walkedFrom t (s .count) i (s .end) ms out → ns′ ≡ set ns (s .count) (s .end ∷ w .end ∷ p ∷ d ∷ [])
-    → u ≡ s .unclosed + cond (w .unclosed) 1 0 → sheet ms′ out′ ns′ (turnOf (s .count + 1) (w .end) u 0 0) ≡ madeAt t (sheet ms out ns s) i p d
+pub made : (t : Rows) (near : Bool) (ms ms′ : List ℕ) (out out′ : List (List Float)) (ns ns′ : List (List ℕ)) (s : Turn) (i p d u : ℕ) (w : Walk)
+    → toured ms′ out′ w ≡ walkedFrom t near (s .count) i (s .end) ms out → ns′ ≡ set ns (s .count) (s .end ∷ w .end ∷ p ∷ d ∷ [])
+    → u ≡ s .unclosed + cond (w .unclosed) 1 0 → sheet ms′ out′ ns′ (turnOf (s .count + 1) (w .end) u 0 0) ≡ madeAt t near (sheet ms out ns s) i p d
 unfolding madeAt ended
-made t ms ms′ out out′ ns ns′ s i p d u w e k n = rw (k, n) (ap (ended (sheet ms out ns s) p d) e)
+made t near ms ms′ out out′ ns ns′ s i p d u w e k n = rw (k, n) (ap (ended (sheet ms out ns s) p d) e)
 
-pub walk-end : (t : Rows) (c i first : ℕ) (ms ms′ : List ℕ) (out out′ : List (List Float)) (w : Walk) → toured ms′ out′ w ≡ walkedFrom t c i first ms out → w .end ≤ first + size t + 1
+pub walk-end : (t : Rows) (near : Bool) (c i first : ℕ) (ms ms′ : List ℕ) (out out′ : List (List Float)) (w : Walk) → toured ms′ out′ w ≡ walkedFrom t near c i first ms out → w .end ≤ first + size t + 1
 unfolding walkedFrom walkedAlong
-walk-end t c i first ms ms′ out out′ w e = omega (arith, ap (λ (x : Toured). x .told .end) e, corners-few t c i ms)
+walk-end t near c i first ms ms′ out out′ w e = omega (arith, ap (λ (x : Toured). x .told .end) e, corners-few t near c i ms)
 
 one-at-most : (b : Bool) → cond b 1 0 ≤ 1
 one-at-most true = omega arith
@@ -134,11 +134,11 @@ deep-set ns c b x h s j = go (decLt j (c + 1)) (ℕ-discrete j c) (decLt c (leng
         let v : getD (getD ns j blank) 3 0 ≤ b = rw (lt-ltb j c (omega arith)) at u in
         rw (lt-ltb j (c + 1) l, getD-set-other ns c j x blank e) (omega (arith, v))
 
-pub made-within : (t : Rows) (ms ms′ : List ℕ) (out out′ : List (List Float)) (ns ns′ : List (List ℕ)) (s r : Turn) (i p d : ℕ)
-    → sheet ms′ out′ ns′ r ≡ madeAt t (sheet ms out ns s) i p d → d ≤ i + 1 → Within s ns i → size t ≤ 4096 → Within r ns′ (i + 1)
+pub made-within : (t : Rows) (near : Bool) (ms ms′ : List ℕ) (out out′ : List (List Float)) (ns ns′ : List (List ℕ)) (s r : Turn) (i p d : ℕ)
+    → sheet ms′ out′ ns′ r ≡ madeAt t near (sheet ms out ns s) i p d → d ≤ i + 1 → Within s ns i → size t ≤ 4096 → Within r ns′ (i + 1)
 unfolding madeAt ended
-made-within t ms ms′ out out′ ns ns′ s r i p d m h w n =
-    let W : Toured = walkedFrom t (s .count) i (s .end) ms out in
+made-within t near ms ms′ out out′ ns ns′ s r i p d m h w n =
+    let W : Toured = walkedFrom t near (s .count) i (s .end) ms out in
     let k : ns′ ≡ set ns (s .count) (s .end ∷ W .told .end ∷ p ∷ d ∷ []) = ap (λ (x : Sheet). x .nests) m in
     let c : r .count ≡ s .count + 1 = ap (λ (x : Sheet). x .turn .count) m in
     let e : r .end ≡ W .told .end = ap (λ (x : Sheet). x .turn .end) m in
@@ -146,7 +146,7 @@ made-within t ms ms′ out out′ ns ns′ s r i p d m h w n =
     record {
       count = omega (arith, w .count, c);
       unclosed = omega (arith, w .unclosed, u, one-at-most (W .told .unclosed));
-      end = omega (arith, w .end, e, n, walk-end t (s .count) i (s .end) ms (W .walked) out (W .corners) (W .told) refl);
+      end = omega (arith, w .end, e, n, walk-end t near (s .count) i (s .end) ms (W .walked) out (W .corners) (W .told) refl);
       deep = rw (k, c) (deep-set ns (s .count) i _ h (w .deep));
     }
 
@@ -156,40 +156,40 @@ within-more s ns i r a b u w =
 
 -- ---- one position
 
-module _ (t : Rows) (ms : List ℕ) (out : List (List Float)) (ns : List (List ℕ)) (s : Turn) (i m : ℕ) (e : m ≡ markIn ms i) where
-  pub start-pass : (m ≡ 0 → ⊥) → sheet ms out ns s ≡ startAt t (sheet ms out ns s) i
+module _ (t : Rows) (near : Bool) (ms : List ℕ) (out : List (List Float)) (ns : List (List ℕ)) (s : Turn) (i m : ℕ) (e : m ≡ markIn ms i) where
+  pub start-pass : (m ≡ 0 → ⊥) → sheet ms out ns s ≡ startAt t near (sheet ms out ns s) i
   unfolding startAt
   start-pass h = rw (← e, ne-eqb m 0 h)
 
   module _ (z : m ≡ 0) (r : End) (g : r ≡ endAt t i) (p : Place) (q : p ≡ contextOf ms ns (s .count) (r .below) (r .«out_in»)) where
-    start-here : startAt t (sheet ms out ns s) i ≡ placeAt t (sheet ms out ns s) i p
+    start-here : startAt t near (sheet ms out ns s) i ≡ placeAt t near (sheet ms out ns s) i p
     unfolding startAt
     start-here = rw (← e, eq-eqb m 0 z, ← g, ← q)
 
-    pub start-refused : p .refused ≡ true → sheet ms out ns (turnOf (s .count) (s .end) (s .unclosed) 9 i) ≡ startAt t (sheet ms out ns s) i
+    pub start-refused : p .refused ≡ true → sheet ms out ns (turnOf (s .count) (s .end) (s .unclosed) 9 i) ≡ startAt t near (sheet ms out ns s) i
     unfolding placeAt
     start-refused h = rw (start-here, h)
 
-    pub start-made : p .refused ≡ false → (w : Sheet) → w ≡ madeAt t (sheet ms out ns s) i (p .parent) (p .depth) → w ≡ startAt t (sheet ms out ns s) i
+    pub start-made : p .refused ≡ false → (w : Sheet) → w ≡ madeAt t near (sheet ms out ns s) i (p .parent) (p .depth) → w ≡ startAt t near (sheet ms out ns s) i
     unfolding placeAt
     start-made h w v = rw (start-here, h) v
 
 -- ---- all positions
 
-module _ (t : Rows) (n : ℕ) where
-  starts-more : (i : ℕ) (s : Sheet) → i < n → starts t (n - i) i s ≡ after t (starts t (n - (i + 1)) (i + 1)) (startAt t s i)
+module _ (t : Rows) (near : Bool) (n : ℕ) where
+  starts-more : (i : ℕ) (s : Sheet) → i < n → starts t near (n - i) i s ≡ after t near (starts t near (n - (i + 1)) (i + 1)) (startAt t near s i)
   unfolding starts
   starts-more i s h = let q : n - i ≡ suc (n - (i + 1)) = omega arith in rw q
 
-  pub starts-on : (i : ℕ) (s s′ w : Sheet) → i < n → starts t (n - i) i s ≡ w → s′ ≡ startAt t s i → s′ .turn .stop ≡ 0 → starts t (n - (i + 1)) (i + 1) s′ ≡ w
+  pub starts-on : (i : ℕ) (s s′ w : Sheet) → i < n → starts t near (n - i) i s ≡ w → s′ ≡ startAt t near s i → s′ .turn .stop ≡ 0 → starts t near (n - (i + 1)) (i + 1) s′ ≡ w
   unfolding after
   starts-on i s s′ w h v e z = rw (starts-more i s h, ← e, eq-eqb (s′ .turn .stop) 0 z) at v
 
-  pub starts-stop : (i : ℕ) (s s′ w : Sheet) → i < n → starts t (n - i) i s ≡ w → s′ ≡ startAt t s i → (s′ .turn .stop ≡ 0 → ⊥) → s′ ≡ w
+  pub starts-stop : (i : ℕ) (s s′ w : Sheet) → i < n → starts t near (n - i) i s ≡ w → s′ ≡ startAt t near s i → (s′ .turn .stop ≡ 0 → ⊥) → s′ ≡ w
   unfolding after
   starts-stop i s s′ w h v e z = rw (starts-more i s h, ← e, ne-eqb (s′ .turn .stop) 0 z) at v
 
-  pub starts-end : (i : ℕ) (s w : Sheet) → n ≤ i → starts t (n - i) i s ≡ w → s ≡ w
+  pub starts-end : (i : ℕ) (s w : Sheet) → n ≤ i → starts t near (n - i) i s ≡ w → s ≡ w
   unfolding starts
   starts-end i s w h v = let q : n - i ≡ 0 = omega arith in rw q at v
 
@@ -197,9 +197,9 @@ pub within-none : (ns : List (List ℕ)) (s : Turn) → s ≡ turnOf 0 0 0 0 0 �
 unfolding nestAt
 within-none ns s e = rw e (record { count = omega arith; unclosed = omega arith; end = omega arith; deep = λ j. rw (le-ltb j 0 (omega arith)) (omega arith) })
 
-pub start-of : (t : Rows) (n : ℕ) (ms : List ℕ) (out : List (List Float)) (ns : List (List ℕ)) (s : Turn) → s ≡ turnOf 0 0 0 0 0
-    → starts t (n - 0) 0 (sheet ms out ns s) ≡ starts t n 0 (sheet ms out ns (turnOf 0 0 0 0 0))
-start-of t n ms out ns s e = let q : n - 0 ≡ n = omega arith in rw (e, q)
+pub start-of : (t : Rows) (near : Bool) (n : ℕ) (ms : List ℕ) (out : List (List Float)) (ns : List (List ℕ)) (s : Turn) → s ≡ turnOf 0 0 0 0 0
+    → starts t near (n - 0) 0 (sheet ms out ns s) ≡ starts t near n 0 (sheet ms out ns (turnOf 0 0 0 0 0))
+start-of t near n ms out ns s e = let q : n - 0 ≡ n = omega arith in rw (e, q)
 
 -- ---- clearing
 

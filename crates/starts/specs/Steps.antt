@@ -1,4 +1,4 @@
--- The parts of all contours, as the code goes: parent and depth read from what was kept of the contours before.
+-- The parts of all contours, as the code goes (`near` as in `walks.specs.Walks`): parent and depth read from what was kept of the contours before.
 use mathlib.Core.Bool.{Bool, false, cond}
 use mathlib.Core.List.{List, [], _∷_}
 use Prim.Native.Nat.{ℕ, zero, suc, _+_, _-_, _*_, _≤_}
@@ -44,10 +44,10 @@ ended s p d w =
     sheet (w .walked) (w .corners) (set (s .nests) (s .turn .count) (s .turn .end ∷ w .told .end ∷ p ∷ d ∷ []))
     (turnOf (s .turn .count + 1) (w .told .end) (s .turn .unclosed + cond (w .told .unclosed) 1 0) 0 0)
 
-module _ (t : Rows) where
+module _ (t : Rows) (near : Bool) where
   -- the contour from i is walked
   unfoldable pub madeAt : Sheet → ℕ → ℕ → ℕ → Sheet
-  madeAt s i p d = ended s p d (walkedFrom t (s .turn .count) i (s .turn .end) (s .walked) (s .corners))
+  madeAt s i p d = ended s p d (walkedFrom t near (s .turn .count) i (s .turn .end) (s .walked) (s .corners))
 
   unfoldable pub placeAt : Sheet → ℕ → Place → Sheet
   placeAt s i p = cond (p .refused) (sheet (s .walked) (s .corners) (s .nests) (turnOf (s .turn .count) (s .turn .end) (s .turn .unclosed) 9 i)) (madeAt s i (p .parent) (p .depth))

@@ -1,4 +1,5 @@
 // All contours of a table (`connect_edges`): each position in turn that is not yet walked starts one.
+// Whether the points stand in order is asked once: where they do, a walk need look only at the rows around a position.
 // What a contour's holes and depth need of it is kept in `nests`: its first corner, where its corners end, its parent + 1 or 0, its depth.
 ghost use mathlib.Core.Path.{_≡_};
 ghost use Prim.Native.Nat.{_≤_};
@@ -7,6 +8,7 @@ ghost use Rattle.rows.specs.Rows.{lent};
 ghost use Rattle.starts.specs.Starts.{sheet, turnOf, tracedOn};
 ghost use Rattle.starts.specs.Steps.{starts};
 use checks::sizes::MAX_EVENTS;
+use round::block::in_order;
 use start::start_at;
 
 mod context;
@@ -55,15 +57,16 @@ fn all_starts(
     walked: &mut [u32],
     corners: &mut [[f64; 2]],
     nests: &mut [[u32; 4]],
+    near: bool,
 ) -> Turn
     requires { ⌜ length (now rows) ≤ 4096 ⌝ }
-    ensures { λ r. ⌜ sheet (now (walked .exit)) (now (corners .exit)) (now (nests .exit)) r ≡ starts (lent (now (rows .entry)) (now (at .entry))) (length (now (rows .entry))) 0 (sheet (now (walked .entry)) (now (corners .entry)) (now (nests .entry)) (turnOf 0 0 0 0 0)) ⌝ }
+    ensures { λ r. ⌜ sheet (now (walked .exit)) (now (corners .exit)) (now (nests .exit)) r ≡ starts (lent (now (rows .entry)) (now (at .entry))) near (length (now (rows .entry))) 0 (sheet (now (walked .entry)) (now (corners .entry)) (now (nests .entry)) (turnOf 0 0 0 0 0)) ⌝ }
 {
     let n = rows.len();
     let mut s = nothing();
     let mut i = 0;
     while i < n {
-        s = start_at(rows, at, walked, corners, nests, s, i);
+        s = start_at(rows, at, walked, corners, nests, near, s, i);
         if s.stop != 0 {
             return s;
         }
@@ -92,6 +95,7 @@ pub fn trace_starts(
     if nests.len() < n {
         return nothing();
     }
+    let near = in_order(at, n);
     clear(walked);
-    all_starts(rows, at, walked, corners, nests)
+    all_starts(rows, at, walked, corners, nests, near)
 }

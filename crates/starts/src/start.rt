@@ -40,17 +40,18 @@ fn make(
     walked: &mut [u32],
     corners: &mut [[f64; 2]],
     nests: &mut [[u32; 4]],
+    near: bool,
     s: Turn,
     i: usize,
     parent: u32,
     depth: u32,
 ) -> Turn
     requires { ⌜ (s .count < 4096) × (s .unclosed ≤ 4096) × (s .end ≤ 4097 * 4096) × (length (now rows) ≤ 4096) ⌝ }
-    ensures { λ r. ⌜ sheet (now (walked .exit)) (now (corners .exit)) (now (nests .exit)) r ≡ madeAt (lent (now (rows .entry)) (now (at .entry))) (sheet (now (walked .entry)) (now (corners .entry)) (now (nests .entry)) s) i parent depth ⌝ }
+    ensures { λ r. ⌜ sheet (now (walked .exit)) (now (corners .exit)) (now (nests .exit)) r ≡ madeAt (lent (now (rows .entry)) (now (at .entry))) near (sheet (now (walked .entry)) (now (corners .entry)) (now (nests .entry)) s) i parent depth ⌝ }
 {
     let c = s.count;
     let first = s.end;
-    let walk = walk_from(rows, at, walked, corners, c as u16, i, first);
+    let walk = walk_from(rows, at, walked, corners, near, c as u16, i, first);
     let end = walk.end as u32;
     put_nest(nests, c as usize, [first, end, parent, depth]);
     Turn {
@@ -68,11 +69,12 @@ pub fn start_at(
     walked: &mut [u32],
     corners: &mut [[f64; 2]],
     nests: &mut [[u32; 4]],
+    near: bool,
     s: Turn,
     i: usize,
 ) -> Turn
     requires { ⌜ (Within s (now nests) i) × (i < 4096) × (length (now rows) ≤ 4096) ⌝ }
-    ensures { λ r. ⌜ sheet (now (walked .exit)) (now (corners .exit)) (now (nests .exit)) r ≡ startAt (lent (now (rows .entry)) (now (at .entry))) (sheet (now (walked .entry)) (now (corners .entry)) (now (nests .entry)) s) i ⌝ }
+    ensures { λ r. ⌜ sheet (now (walked .exit)) (now (corners .exit)) (now (nests .exit)) r ≡ startAt (lent (now (rows .entry)) (now (at .entry))) near (sheet (now (walked .entry)) (now (corners .entry)) (now (nests .entry)) s) i ⌝ }
     ensures { λ r. ⌜ Within r (now (nests .exit)) (i + 1) ⌝ }
 {
     if mark_at(walked, i) != 0 {
@@ -95,6 +97,7 @@ pub fn start_at(
         walked,
         corners,
         nests,
+        near,
         s,
         i,
         place.parent,

@@ -146,10 +146,10 @@ module _ (t : Rows) (out : List (List Float)) (ks : List (List ℕ)) (hs : List 
   abbrev outsOf : List Contour → List (Outline Coordinate)
   outsOf cs = outlines (same binary64) (size t) (tableRow t) cs
 
-  holed-is : (ms : List ℕ) (cs : List Contour) (stop place : ℕ) → length cs ≤ maxEvents → maxEvents ≤ length ns
+  holed-is : (ms : List ℕ) (cs : List Contour) (stop place : ℕ) → length cs ≤ maxEvents → length cs ≤ length ns
       → holed ks hs (sheetOf t out ns ms cs stop place) ≡ written out ks hs ms (outsOf cs) stop place
   unfolding holed joined holedOn heldFrom sheetOf written outlines
-  holed-is ms cs stop place l r =
+  holed-is ms cs stop place l room =
       rw (le-leb (length cs) maxEvents l)
       (sheets
       (ap (sets out 0) (corners-are t cs 0 cs))
@@ -157,9 +157,6 @@ module _ (t : Rows) (out : List (List Float)) (ks : List (List ℕ)) (hs : List 
       (ap (sets hs 0) holes)
       (tells stop place (sym (outline-count (same binary64) (size t) (tableRow t) cs cs 0)) (corners-count t cs 0 cs) ends (unclosed-are t cs 0 cs)))
     where
-      room : length cs ≤ length ns
-      room = omega arith
-
       rows : contourRows (N t ns cs room) (length cs) (length cs) 0 0 ≡ rowsIn 0 0 (outs t cs 0 cs)
       rows = rows-are t ns cs room (length cs) refl 0 0 0 cs (λ j i. let z : 0 + j ≡ j = omega arith in rw z (nest-is t ns cs room j i))
 
@@ -175,17 +172,17 @@ module _ (t : Rows) (out : List (List Float)) (ks : List (List ℕ)) (hs : List 
       trace-end (same binary64) (size t) (tableRow t) (λ i ms cs. length cs ≤ i) (λ i ms cs l h o. omega arith)
       (λ i ms cs p d l h o. omega (arith, h, length-append cs (contour (trailAt (same binary64) (size t) (tableRow t) i (length cs) ms) p d ∷ []))) (omega arith)
 
-  answered-is : size t ≤ maxEvents → maxEvents ≤ length ns → (a : Answer) → Ends (size t) (λ i ms cs. length cs ≤ i) a → holed ks hs (answerOf t out ns a) ≡ answered (size t) (tableRow t) out ks hs a
+  answered-is : size t ≤ maxEvents → size t ≤ length ns → (a : Answer) → Ends (size t) (λ i ms cs. length cs ≤ i) a → holed ks hs (answerOf t out ns a) ≡ answered (size t) (tableRow t) out ks hs a
   unfolding answerOf answered
-  answered-is h r (done ms cs) l = holed-is ms cs 0 0 (omega arith) r
-  answered-is h r (halted number i ms cs) l = holed-is ms cs number i (omega (arith, l .0, l .1)) r
+  answered-is h r (done ms cs) l = holed-is ms cs 0 0 (omega arith) (omega arith)
+  answered-is h r (halted number i ms cs) l = holed-is ms cs number i (omega (arith, l .0, l .1)) (omega (arith, l .0, l .1))
 
   nothing-is : (ms : List ℕ) → holed ks hs (S.sheet ms out ns (turnOf 0 0 0 0 0)) ≡ sheet ms out ks hs (told 0 0 0 0 0 0)
   unfolding holed joined holedOn heldFrom contourRows allHoles
   nothing-is ms = refl
 
-  -- the two steps, with places enough for what is kept between them
-  traced-is : (ms : List ℕ) → maxEvents ≤ length ns → tracedBy t ms out ks hs ns ≡ tracedOn t ms out ks hs
+  -- the two steps, with places enough for what is kept between them of a table within the limit
+  traced-is : (ms : List ℕ) → (size t ≤ maxEvents → size t ≤ length ns) → tracedBy t ms out ks hs ns ≡ tracedOn t ms out ks hs
   unfolding tracedBy tracedOn tracedAll S.tracedOn S.fits fits
   traced-is ms r = go (leb (size t) maxEvents) (eqb (length ms) (size t)) refl
     where
@@ -196,7 +193,7 @@ module _ (t : Rows) (out : List (List Float)) (ks : List (List ℕ)) (hs : List 
           → holed ks hs (cond (a && (b && leb (size t) (length ns))) (answerOf t out ns A) (S.sheet ms out ns (turnOf 0 0 0 0 0))) ≡ cond (a && b) (answered (size t) (tableRow t) out ks hs A) (sheet ms out ks hs (told 0 0 0 0 0 0))
       go true true e =
           let l : size t ≤ maxEvents = leb-true (size t) maxEvents e in
-          rw (le-leb (size t) (length ns) (omega arith)) (answered-is l r A few)
+          rw (le-leb (size t) (length ns) (r l)) (answered-is l (r l) A few)
       go true false e = nothing-is ms
       go false b e = nothing-is ms
 
@@ -208,7 +205,7 @@ pub joined-is : (t : Rows) (ms ms′ : List ℕ) (out out′ : List (List Float)
 unfolding tracedBy holed joined
 joined-is t ms ms′ out out′ ks ks′ hs hs′ ns ns′ s e f g = ap (joined (S.sheet ms′ out′ ns′ s)) g ∙ ap (holed ks hs) f
 
-pub whole : (t : Rows) (ms : List ℕ) (out : List (List Float)) (ks : List (List ℕ)) (hs : List ℕ) (ns : List (List ℕ)) (w : Sheet) → maxEvents ≤ length ns
+pub whole : (t : Rows) (ms : List ℕ) (out : List (List Float)) (ks : List (List ℕ)) (hs : List ℕ) (ns : List (List ℕ)) (w : Sheet) → (size t ≤ maxEvents → size t ≤ length ns)
     → w ≡ tracedBy t ms out ks hs ns → w ≡ tracedOn t ms out ks hs
 whole t ms out ks hs ns w r e = e ∙ traced-is t out ks hs ns ms r
 

@@ -1,11 +1,17 @@
 // All contours of a table (`connect_edges`), whole: corners, parents, depths, holes, and how many are open.
 // A contour is: its first corner, where its corners end, its parent + 1 or 0, its depth, its first hole, its number of holes.
 ghost use mathlib.Core.Path.{_≡_};
+ghost use Prim.Native.Nat.{_≤_};
+ghost use lib.ListN.{length};
 ghost use Rattle.rows.specs.Rows.{lent};
 ghost use Rattle.tracing.specs.Tracing.{sheet, tracedOn};
 ghost use Rattle.tracing.specs.Parts.{tracedBy};
+use checks::sizes::MAX_EVENTS;
 use holes::hold_contours;
 use starts::trace_starts;
+
+// Places for a small table: to clear places for any takes longer than to trace it.
+pub const FEW: usize = 256;
 
 // How many places of each array are in use, and what stopped the contours.
 pub struct Traced {
@@ -43,6 +49,37 @@ fn trace_by(
     }
 }
 
+fn trace_few(
+    rows: &[[u32; 4]],
+    at: &[[f64; 2]],
+    walked: &mut [u32],
+    corners: &mut [[f64; 2]],
+    contours: &mut [[u32; 6]],
+    holes: &mut [u32],
+) -> Traced
+    requires { ⌜ length (now rows) ≤ 256 ⌝ }
+    ensures { λ r. ⌜ sheet (now (walked .exit)) (now (corners .exit)) (now (contours .exit)) (now (holes .exit)) r ≡ tracedOn (lent (now (rows .entry)) (now (at .entry))) (now (walked .entry)) (now (corners .entry)) (now (contours .entry)) (now (holes .entry)) ⌝ }
+{
+    let nest = [0u32; 4];
+    let mut nests = [nest; FEW];
+    trace_by(rows, at, walked, corners, contours, holes, &mut nests)
+}
+
+fn trace_many(
+    rows: &[[u32; 4]],
+    at: &[[f64; 2]],
+    walked: &mut [u32],
+    corners: &mut [[f64; 2]],
+    contours: &mut [[u32; 6]],
+    holes: &mut [u32],
+) -> Traced
+    ensures { λ r. ⌜ sheet (now (walked .exit)) (now (corners .exit)) (now (contours .exit)) (now (holes .exit)) r ≡ tracedOn (lent (now (rows .entry)) (now (at .entry))) (now (walked .entry)) (now (corners .entry)) (now (contours .entry)) (now (holes .entry)) ⌝ }
+{
+    let nest = [0u32; 4];
+    let mut nests = [nest; MAX_EVENTS];
+    trace_by(rows, at, walked, corners, contours, holes, &mut nests)
+}
+
 // Where the table is too long, or the marks are not as many as its rows, nothing is done.
 pub fn trace(
     rows: &[[u32; 4]],
@@ -54,7 +91,8 @@ pub fn trace(
 ) -> Traced
     ensures { λ r. ⌜ sheet (now (walked .exit)) (now (corners .exit)) (now (contours .exit)) (now (holes .exit)) r ≡ tracedOn (lent (now (rows .entry)) (now (at .entry))) (now (walked .entry)) (now (corners .entry)) (now (contours .entry)) (now (holes .entry)) ⌝ }
 {
-    let nest = [0u32; 4];
-    let mut nests = [nest; 4096];
-    trace_by(rows, at, walked, corners, contours, holes, &mut nests)
+    if rows.len() <= FEW {
+        return trace_few(rows, at, walked, corners, contours, holes);
+    }
+    trace_many(rows, at, walked, corners, contours, holes)
 }

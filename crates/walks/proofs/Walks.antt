@@ -1,5 +1,5 @@
 -- The definition's walk, edge by edge as the loop goes: what is left to walk from now on gives what the whole walk gives.
-use mathlib.Core.Path.{_≡_, refl, sym, ap, _∙_}
+use mathlib.Core.Path.{_≡_, refl, sym, ap, ap₂, _∙_, fun-ext}
 use mathlib.Core.Bool.{Bool, true, false, not, cond}
 use mathlib.Core.Option.{Option, none, some}
 use mathlib.Core.List.{List, [], _∷_, map}
@@ -18,54 +18,54 @@ use Rattle.contours.specs.Walk.{mark, marks, walk, onward, halt, corners}
 use Rattle.contours.specs.Outline.{final, closes}
 use Rattle.rows.specs.declared.End.{End}
 use Rattle.rows.specs.Rows.{Rows, size, pointAt, endAt, pointCode, tableRow, rowOf}
-use Rattle.round.specs.Round.{nextPos, found}
+use Rattle.round.specs.Round.{tried, nextPos, found}
 use Rattle.round.proofs.Found.{seek-in}
-use Rattle.walks.specs.Walks.{Toured, toured, told, trailFrom, cornersOf, unclosedTrail, marksOf, walkedAlong, walkedFrom, Trip, trip, otherOf, cornerAfter, marked, edgesAlong, edgesFrom, headTo, heading, Stepped}
+use Rattle.walks.specs.Walks.{Toured, toured, told, trail, trailFrom, cornersOf, unclosedTrail, marksOf, walkedAlong, walkedFrom, Trip, trip, otherOf, cornerAfter, marked, edgesAlong, edgesFrom, headTo, heading, Stepped}
 
 tours : {m m′ : List ℕ} {o o′ : List (List Float)} {e e′ : ℕ} {b b′ : Bool} → m ≡ m′ → o ≡ o′ → e ≡ e′ → b ≡ b′ → toured m o (told e b) ≡ toured m′ o′ (told e′ b′)
 tours p q r s = rw (p, q, r, s)
 
 -- ---- where a walk goes on
 
-module _ (t : Rows) (home : Coordinate) (ms : List ℕ) (q j : ℕ) (e : j ≡ nextPos t ms q) where
+module _ (t : Rows) (home : Coordinate) (near : Bool) (ms : List ℕ) (q j : ℕ) (e : j ≡ nextPos t near ms q) where
   abbrev Sought : Option ℕ → Type 0
-  Sought o = seek ms (tries (same binary64) (size t) (tableRow t) q) ≡ o
+  Sought o = seek ms (tried t near q) ≡ o
 
-  pub head-none : length ms ≤ j → length ms ≡ heading t home ms q
+  pub head-none : length ms ≤ j → length ms ≡ heading t home near ms q
   unfolding heading headTo nextPos found
-  head-none h = go (seek ms (tries (same binary64) (size t) (tableRow t) q)) refl e
+  head-none h = go (seek ms (tried t near q)) refl e
     where
       go : (o : Option ℕ) → Sought o → j ≡ found (length ms) o → length ms ≡ headTo t home (length ms) o
       go none s f = refl
       go (some i) s f = absurd (omega (arith, seek-in ms _ i s, f))
 
   module _ (h : j < length ms) (p : Coordinate) (b : Bool) (f : p ≡ pointAt t j) (g : b ≡ same binary64 home p) where
-    head-some : heading t home ms q ≡ cond b (length ms) j
+    head-some : heading t home near ms q ≡ cond b (length ms) j
     unfolding heading headTo nextPos found
-    head-some = go (seek ms (tries (same binary64) (size t) (tableRow t) q)) e
+    head-some = go (seek ms (tried t near q)) e
       where
         go : (o : Option ℕ) → j ≡ found (length ms) o → headTo t home (length ms) o ≡ cond b (length ms) j
         go none k = absurd (omega arith)
         go (some i) k = rw (← k, ← f, ← g)
 
-    pub head-home : b ≡ true → length ms ≡ heading t home ms q
+    pub head-home : b ≡ true → length ms ≡ heading t home near ms q
     head-home k = sym (head-some ∙ rw k)
 
-    pub head-on : b ≡ false → j ≡ heading t home ms q
+    pub head-on : b ≡ false → j ≡ heading t home near ms q
     head-on k = sym (head-some ∙ rw k)
 
 -- ---- one edge
 
-pub stepped : (t : Rows) (home : Coordinate) (c : ℕ) (ms m1 m2 : List ℕ) (out out′ : List (List Float)) (i q e j : ℕ) (p : Coordinate)
-    → m1 ≡ set ms i (c + 1) → m2 ≡ set m1 q (c + 1) → p ≡ pointAt t q → out′ ≡ set out e (pointCode p) → j ≡ heading t home m2 q → Stepped t home c ms out i q e m2 out′ j
+pub stepped : (t : Rows) (home : Coordinate) (near : Bool) (c : ℕ) (ms m1 m2 : List ℕ) (out out′ : List (List Float)) (i q e j : ℕ) (p : Coordinate)
+    → m1 ≡ set ms i (c + 1) → m2 ≡ set m1 q (c + 1) → p ≡ pointAt t q → out′ ≡ set out e (pointCode p) → j ≡ heading t home near m2 q → Stepped t home near c ms out i q e m2 out′ j
 unfolding marked
-stepped t home c ms m1 m2 out out′ i q e j p h1 h2 hp ho hj = record { walked = rw (h2, h1, add-one); corners = rw (ho, hp); next = hj }
+stepped t home near c ms m1 m2 out out′ i q e j p h1 h2 hp ho hj = record { walked = rw (h2, h1, add-one); corners = rw (ho, hp); next = hj }
 
 -- ---- the loop
 
-module _ (t : Rows) (home : Coordinate) (c : ℕ) where
+module _ (t : Rows) (home : Coordinate) (near : Bool) (c : ℕ) where
   abbrev path : ℕ → List ℕ → ℕ → List ℕ
-  path k ms i = walk (same binary64) (size t) (tableRow t) k home c ms i
+  path k ms i = trail t near k home c ms i
 
   module _ (k : ℕ) (ms : List ℕ) (i : ℕ) where
     abbrev M : List ℕ
@@ -74,9 +74,9 @@ module _ (t : Rows) (home : Coordinate) (c : ℕ) where
     abbrev goes : Option ℕ → List ℕ
     goes s = i ∷ onward s (λ j. same binary64 home (pointAt t j)) (λ j. path k M j)
 
-    path-on : (j : ℕ) → j ≡ heading t home M (otherOf t i) → j < length M → path (suc k) ms i ≡ i ∷ path k M j
-    unfolding walk onward halt heading headTo marked mark tableRow rowOf
-    path-on j e h = go (seek M (tries (same binary64) (size t) (tableRow t) (otherOf t i))) e
+    path-on : (j : ℕ) → j ≡ heading t home near M (otherOf t i) → j < length M → path (suc k) ms i ≡ i ∷ path k M j
+    unfolding trail onward halt heading headTo marked mark tableRow rowOf
+    path-on j e h = go (seek M (tried t near (otherOf t i))) e
       where
         at : (l : ℕ) (b : Bool) → j ≡ cond b (length M) l → i ∷ halt b (λ j. path k M j) l ≡ i ∷ path k M j
         at l true f = absurd (omega arith)
@@ -86,15 +86,15 @@ module _ (t : Rows) (home : Coordinate) (c : ℕ) where
         go none f = absurd (omega arith)
         go (some l) f = at l (same binary64 home (pointAt t l)) f
 
-    path-end : (j : ℕ) → j ≡ heading t home M (otherOf t i) → length M ≤ j → path (suc k) ms i ≡ i ∷ []
-    unfolding walk onward halt heading headTo marked mark tableRow rowOf
-    path-end j e h = go (seek M (tries (same binary64) (size t) (tableRow t) (otherOf t i))) refl e
+    path-end : (j : ℕ) → j ≡ heading t home near M (otherOf t i) → length M ≤ j → path (suc k) ms i ≡ i ∷ []
+    unfolding trail onward halt heading headTo marked mark tableRow rowOf
+    path-end j e h = go (seek M (tried t near (otherOf t i))) refl e
       where
         at : (l : ℕ) (b : Bool) → l < length M → j ≡ cond b (length M) l → i ∷ halt b (λ j. path k M j) l ≡ i ∷ []
         at l true n f = refl
         at l false n f = absurd (omega arith)
 
-        go : (s : Option ℕ) → seek M (tries (same binary64) (size t) (tableRow t) (otherOf t i)) ≡ s → j ≡ headTo t home (length M) s → goes s ≡ i ∷ []
+        go : (s : Option ℕ) → seek M (tried t near (otherOf t i)) ≡ s → j ≡ headTo t home (length M) s → goes s ≡ i ∷ []
         go none q f = refl
         go (some l) q f = at l (same binary64 home (pointAt t l)) (seek-in M _ l q) f
 
@@ -106,23 +106,23 @@ module _ (t : Rows) (home : Coordinate) (c : ℕ) where
         let n : e + suc (length r) ≡ e + 1 + length r = omega arith in
         rw (f, g, n, add-one)
 
-    module _ (j : ℕ) (x : j ≡ heading t home ms′ (otherOf t i)) where
-      onto : j ≡ heading t home (marked t c ms i (otherOf t i)) (otherOf t i)
-      onto = x ∙ ap (λ (m : List ℕ). heading t home m (otherOf t i)) f
+    module _ (j : ℕ) (x : j ≡ heading t home near ms′ (otherOf t i)) where
+      onto : j ≡ heading t home near (marked t c ms i (otherOf t i)) (otherOf t i)
+      onto = x ∙ ap (λ (m : List ℕ). heading t home near m (otherOf t i)) f
 
-      step-on : (k : ℕ) → j < length ms′ → edgesFrom t home c (suc k) ms out e l i ≡ edgesFrom t home c k ms′ out′ (e + 1) (otherOf t i) j
+      step-on : (k : ℕ) → j < length ms′ → edgesFrom t home near c (suc k) ms out e l i ≡ edgesFrom t home near c k ms′ out′ (e + 1) (otherOf t i) j
       unfolding edgesFrom
       step-on k h =
           rw (path-on k ms i j onto (rw f at h))
           (along-more (path k (marked t c ms i (otherOf t i)) j) ∙ ap (λ (m : List ℕ). edgesAlong t home c ms′ out′ (e + 1) (otherOf t i) (path k m j)) (sym f))
 
-      step-end : (k : ℕ) → length ms′ ≤ j → edgesFrom t home c (suc k) ms out e l i ≡ trip ms′ out′ (e + 1) (otherOf t i)
+      step-end : (k : ℕ) → length ms′ ≤ j → edgesFrom t home near c (suc k) ms out e l i ≡ trip ms′ out′ (e + 1) (otherOf t i)
       unfolding edgesFrom edgesAlong marksOf marks final
       step-end k h = rw (path-end k ms i j onto (rw f at h)) (along-more [] ∙ rw add-zero)
 
-  module _ (k : ℕ) (ms ms′ : List ℕ) (out out′ : List (List Float)) (e l i j : ℕ) (r : End) (w : Trip) (z : 0 < k) (v : edgesFrom t home c k ms out e l i ≡ w)
-      (f : r ≡ endAt t i) (s : Stepped t home c ms out i (r .other) e ms′ out′ j) where
-    taken : edgesFrom t home c (suc (k - 1)) ms out e l i ≡ w
+  module _ (k : ℕ) (ms ms′ : List ℕ) (out out′ : List (List Float)) (e l i j : ℕ) (r : End) (w : Trip) (z : 0 < k) (v : edgesFrom t home near c k ms out e l i ≡ w)
+      (f : r ≡ endAt t i) (s : Stepped t home near c ms out i (r .other) e ms′ out′ j) where
+    taken : edgesFrom t home near c (suc (k - 1)) ms out e l i ≡ w
     taken = let n : k ≡ suc (k - 1) = omega arith in rw n at v
 
     wm : ms′ ≡ marked t c ms i (otherOf t i)
@@ -132,27 +132,27 @@ module _ (t : Rows) (home : Coordinate) (c : ℕ) where
     unfolding cornerAfter
     wo = rw f at (s .corners)
 
-    wn : j ≡ heading t home ms′ (otherOf t i)
+    wn : j ≡ heading t home near ms′ (otherOf t i)
     wn = rw f at (s .next)
 
-    pub turn-on : j < length ms′ → edgesFrom t home c (k - 1) ms′ out′ (e + 1) (r .other) j ≡ w
+    pub turn-on : j < length ms′ → edgesFrom t home near c (k - 1) ms′ out′ (e + 1) (r .other) j ≡ w
     turn-on h = rw f (sym (step-on ms ms′ out out′ e l i wm wo j wn (k - 1) h) ∙ taken)
 
     pub turn-end : length ms′ ≤ j → trip ms′ out′ (e + 1) (r .other) ≡ w
     turn-end h = rw f (sym (step-end ms ms′ out out′ e l i wm wo j wn (k - 1) h) ∙ taken)
 
-  pub turn-none : (k : ℕ) (ms : List ℕ) (out : List (List Float)) (e l i : ℕ) (w : Trip) → k ≤ 0 → edgesFrom t home c k ms out e l i ≡ w → trip ms out e l ≡ w
-  unfolding edgesFrom edgesAlong walk marksOf marks final
+  pub turn-none : (k : ℕ) (ms : List ℕ) (out : List (List Float)) (e l i : ℕ) (w : Trip) → k ≤ 0 → edgesFrom t home near c k ms out e l i ≡ w → trip ms out e l ≡ w
+  unfolding edgesFrom edgesAlong trail marksOf marks final
   turn-none zero ms out e l i w z q = rw add-zero at q
   turn-none (suc k) ms out e l i w z q = absurd (omega arith)
 
 -- ---- the contour
 
-pub whole-none : (t : Rows) (c i first : ℕ) (ms : List ℕ) (out : List (List Float)) → size t ≡ 0 → toured ms out (told first true) ≡ walkedFrom t c i first ms out
-unfolding walkedFrom walkedAlong trailFrom walk marksOf marks cornersOf unclosedTrail corners closes
-whole-none t c i first ms out h = rw (h, add-zero)
+pub whole-none : (t : Rows) (near : Bool) (c i first : ℕ) (ms : List ℕ) (out : List (List Float)) → size t ≡ 0 → toured ms out (told first true) ≡ walkedFrom t near c i first ms out
+unfolding walkedFrom walkedAlong trailFrom trail marksOf marks cornersOf unclosedTrail corners closes
+whole-none t near c i first ms out h = rw (h, add-zero)
 
-module _ (t : Rows) (c i first : ℕ) (ms : List ℕ) (out : List (List Float)) where
+module _ (t : Rows) (near : Bool) (c i first : ℕ) (ms : List ℕ) (out : List (List Float)) where
   abbrev home : Coordinate
   home = pointAt t i
 
@@ -180,14 +180,14 @@ module _ (t : Rows) (c i first : ℕ) (ms : List ℕ) (out : List (List Float)) 
       (omega (arith, length-map (map (λ j. tableRow t (tableRow t j .other) .point) (i ∷ r)) pointCode, length-map (i ∷ r) (λ j. tableRow t (tableRow t j .other) .point)))
       (ap (λ (p : Coordinate). not (same binary64 home p)) (final-is (otherOf t i) r))
 
-  whole-by : (k : ℕ) → (k ≡ 0 → ⊥) → closing home (edgesFrom t home c k ms (set out first (pointCode home)) (first + 1) 0 i) ≡ walkedAlong t c first ms out (walk (same binary64) (size t) (tableRow t) k home c ms i)
-  unfolding walk edgesFrom
+  whole-by : (k : ℕ) → (k ≡ 0 → ⊥) → closing home (edgesFrom t home near c k ms (set out first (pointCode home)) (first + 1) 0 i) ≡ walkedAlong t c first ms out (trail t near k home c ms i)
+  unfolding trail edgesFrom
   whole-by zero h = absurd (h refl)
   whole-by (suc k) h = along-whole _
 
   pub whole : (out′ : List (List Float)) (p q : Coordinate) (w : Trip) (b : Bool) → (size t ≡ 0 → ⊥) → p ≡ home → out′ ≡ set out first (pointCode p)
-      → w ≡ edgesFrom t p c (size t) ms out′ (first + 1) 0 i → q ≡ pointAt t (w .last) → b ≡ same binary64 p q
-      → toured (w .walked) (w .corners) (told (w .end) (not b)) ≡ walkedFrom t c i first ms out
+      → w ≡ edgesFrom t p near c (size t) ms out′ (first + 1) 0 i → q ≡ pointAt t (w .last) → b ≡ same binary64 p q
+      → toured (w .walked) (w .corners) (told (w .end) (not b)) ≡ walkedFrom t near c i first ms out
   unfolding walkedFrom trailFrom tableRow rowOf
   whole out′ p q w b h e f g k l =
       let u : toured (w .walked) (w .corners) (told (w .end) (not b)) ≡ closing p w = rw (l, k) in
@@ -195,23 +195,23 @@ module _ (t : Rows) (c i first : ℕ) (ms : List ℕ) (out : List (List Float)) 
 
 -- ---- how far a walk goes
 
-module _ (t : Rows) (home : Coordinate) (c : ℕ) where
-  walk-short : (k : ℕ) (ms : List ℕ) (i : ℕ) → length (path t home c k ms i) ≤ k
-  unfolding walk onward halt
+module _ (t : Rows) (home : Coordinate) (near : Bool) (c : ℕ) where
+  walk-short : (k : ℕ) (ms : List ℕ) (i : ℕ) → length (path t home near c k ms i) ≤ k
+  unfolding trail onward halt
   walk-short zero ms i = omega arith
-  walk-short (suc k) ms i = go (seek M (tries (same binary64) (size t) (tableRow t) (tableRow t i .other))) (λ j. walk-short k M j)
+  walk-short (suc k) ms i = go (seek M (tried t near (tableRow t i .other))) (λ j. walk-short k M j)
     where
       M : List ℕ
       M = mark (same binary64) (size t) (tableRow t) c ms i
 
       Rest : Type 0
-      Rest = (j : ℕ) → length (path t home c k M j) ≤ k
+      Rest = (j : ℕ) → length (path t home near c k M j) ≤ k
 
-      at : (b : Bool) (j : ℕ) → Rest → suc (length (halt b (λ j. path t home c k M j) j)) ≤ suc k
+      at : (b : Bool) (j : ℕ) → Rest → suc (length (halt b (λ j. path t home near c k M j) j)) ≤ suc k
       at true j h = omega arith
       at false j h = omega (arith, h j)
 
-      go : (s : Option ℕ) → Rest → suc (length (onward s (λ j. same binary64 home (tableRow t j .point)) (λ j. path t home c k M j))) ≤ suc k
+      go : (s : Option ℕ) → Rest → suc (length (onward s (λ j. same binary64 home (tableRow t j .point)) (λ j. path t home near c k M j))) ≤ suc k
       go none h = omega arith
       go (some j) h = at (same binary64 home (tableRow t j .point)) j h
 
@@ -222,6 +222,22 @@ corners-short t (i ∷ r) =
     omega (arith, length-map (map (λ j. tableRow t (tableRow t j .other) .point) (i ∷ r)) pointCode, length-map (i ∷ r) (λ j. tableRow t (tableRow t j .other) .point))
 
 -- no contour has more corners than the table has rows, and one
-pub corners-few : (t : Rows) (c i : ℕ) (ms : List ℕ) → length (cornersOf t (trailFrom t c i ms)) ≤ size t + 1
+pub corners-few : (t : Rows) (near : Bool) (c i : ℕ) (ms : List ℕ) → length (cornersOf t (trailFrom t near c i ms)) ≤ size t + 1
 unfolding trailFrom
-corners-few t c i ms = omega (arith, corners-short t (path t (tableRow t i .point) c (size t) ms i), walk-short t (tableRow t i .point) c (size t) ms i)
+corners-few t near c i ms = omega (arith, corners-short t (path t (tableRow t i .point) near c (size t) ms i), walk-short t (tableRow t i .point) near c (size t) ms i)
+
+-- ---- the definition's walk
+
+-- where what is tried is what the definition tries
+module _ (t : Rows) (near : Bool) (h : (q : ℕ) → tried t near q ≡ tries (same binary64) (size t) (tableRow t) q) where
+  trail-is : (k : ℕ) (home : Coordinate) (c : ℕ) (ms : List ℕ) (i : ℕ) → trail t near k home c ms i ≡ walk (same binary64) (size t) (tableRow t) k home c ms i
+  unfolding trail walk
+  trail-is zero home c ms i = refl
+  trail-is (suc k) home c ms i =
+      ap₂ (λ (o : Option ℕ) (f : ℕ → List ℕ). i ∷ onward o (λ j. same binary64 home (tableRow t j .point)) f)
+      (ap (seek (mark (same binary64) (size t) (tableRow t) c ms i)) (h (tableRow t i .other)))
+      (fun-ext (trail-is k home c (mark (same binary64) (size t) (tableRow t) c ms i)))
+
+  pub trail-from : (c i : ℕ) (ms : List ℕ) → trailFrom t near c i ms ≡ walk (same binary64) (size t) (tableRow t) (size t) (tableRow t i .point) c ms i
+  unfolding trailFrom
+  trail-from c i ms = trail-is (size t) (tableRow t i .point) c ms i

@@ -1,21 +1,23 @@
 -- One contour (`contours.specs.Walk`) over the table in lent arrays: the marks after it, its corners in the lent points,
 -- where they end, and whether it is open.
+-- `near` tells what a walk tries at a point (`round.specs.Round`): with `near` false, or the points in order, the trail is the definition's.
 -- A corner beyond the lent points is not stored; all places but those of the corners stay as lent.
 use mathlib.Core.Path.{_≡_}
 use mathlib.Core.Bool.{Bool, not, cond}
 use mathlib.Core.Option.{Option, none, some}
-use mathlib.Core.List.{List, map}
-use Prim.Native.Nat.{ℕ, suc, _+_}
+use mathlib.Core.List.{List, [], _∷_, map}
+use Prim.Native.Nat.{ℕ, zero, suc, _+_}
 use lib.ListN.{length, set}
 use lib.Seq.{sets}
 use lib.Ieee.{Float}
 use Rattle.numbers.specs.declared.Coordinate.{Coordinate}
 use Rattle.events.specs.Coordinates.{same}
 use Rattle.events.specs.Binary64.{binary64}
-use Rattle.contours.specs.Round.{seek, tries}
-use Rattle.contours.specs.Walk.{marks, walk, corners}
+use Rattle.contours.specs.Round.{seek}
+use Rattle.contours.specs.Walk.{mark, marks, onward, corners}
 use Rattle.contours.specs.Outline.{final, closes}
 use Rattle.rows.specs.Rows.{Rows, size, pointAt, endAt, pointCode, tableRow}
+use Rattle.round.specs.Round.{tried}
 use Rattle.walks.specs.declared.Walk.{Walk}
 
 -- what a walk leaves and tells
@@ -31,9 +33,16 @@ abbrev pub told : ℕ → Bool → Walk
 told e b = record { end = e; unclosed = b }
 
 module _ (t : Rows) where
+  -- the definition's walk, by what is tried here: at most k edges from i on
+  unfoldable pub trail : Bool → ℕ → Coordinate → ℕ → List ℕ → ℕ → List ℕ
+  trail near zero home c ms i = []
+  trail near (suc k) home c ms i =
+      i ∷ onward (seek (mark (same binary64) (size t) (tableRow t) c ms i) (tried t near (tableRow t i .other))) (λ j. same binary64 home (tableRow t j .point))
+      (λ j. trail near k home c (mark (same binary64) (size t) (tableRow t) c ms i) j)
+
   -- the trail of contour c from i, the corners of a trail, as the definition has them and as the array holds them, and the marks after it
-  unfoldable pub trailFrom : ℕ → ℕ → List ℕ → List ℕ
-  trailFrom c i ms = walk (same binary64) (size t) (tableRow t) (size t) (tableRow t i .point) c ms i
+  unfoldable pub trailFrom : Bool → ℕ → ℕ → List ℕ → List ℕ
+  trailFrom near c i ms = trail near (size t) (tableRow t i .point) c ms i
 
   unfoldable pub cornersOf : List ℕ → List (List Float)
   cornersOf r = map pointCode (corners (same binary64) (size t) (tableRow t) r)
@@ -48,8 +57,8 @@ module _ (t : Rows) where
   unfoldable pub walkedAlong : ℕ → ℕ → List ℕ → List (List Float) → List ℕ → Toured
   walkedAlong c first ms out r = toured (marksOf c ms r) (sets out first (cornersOf r)) (told (first + length (cornersOf r)) (unclosedTrail r))
 
-  unfoldable pub walkedFrom : ℕ → ℕ → ℕ → List ℕ → List (List Float) → Toured
-  walkedFrom c i first ms out = walkedAlong c first ms out (trailFrom c i ms)
+  unfoldable pub walkedFrom : Bool → ℕ → ℕ → ℕ → List ℕ → List (List Float) → Toured
+  walkedFrom near c i first ms out = walkedAlong c first ms out (trailFrom near c i ms)
 
 -- ---- its parts
 
@@ -81,8 +90,8 @@ module _ (t : Rows) where
     edgesAlong c ms out e l r = trip (marksOf t c ms r) (sets out e (map cornerAfter r)) (e + length r) (final l (map otherOf r))
 
     -- at most k edges from i on
-    unfoldable pub edgesFrom : ℕ → ℕ → List ℕ → List (List Float) → ℕ → ℕ → ℕ → Trip
-    edgesFrom c k ms out e l i = edgesAlong c ms out e l (walk (same binary64) (size t) (tableRow t) k home c ms i)
+    unfoldable pub edgesFrom : Bool → ℕ → ℕ → List ℕ → List (List Float) → ℕ → ℕ → ℕ → Trip
+    edgesFrom near c k ms out e l i = edgesAlong c ms out e l (trail t near k home c ms i)
 
     -- a walk goes on to a position that is found, unless it is home; m for nowhere
     unfoldable pub headTo : ℕ → Option ℕ → ℕ
@@ -90,11 +99,11 @@ module _ (t : Rows) where
     headTo m (some j) = cond (same binary64 home (pointAt t j)) m j
 
     -- from the end at q
-    unfoldable pub heading : List ℕ → ℕ → ℕ
-    heading ms q = headTo (length ms) (seek ms (tries (same binary64) (size t) (tableRow t) q))
+    unfoldable pub heading : Bool → List ℕ → ℕ → ℕ
+    heading near ms q = headTo (length ms) (seek ms (tried t near q))
 
     -- one edge walked from i to q, its corner stored at e: the marks and points after it, and where the walk goes on
-    pub record Stepped (c : ℕ) (ms : List ℕ) (out : List (List Float)) (i q e : ℕ) (ms′ : List ℕ) (out′ : List (List Float)) (j : ℕ) : Type 0 where
+    pub record Stepped (near : Bool) (c : ℕ) (ms : List ℕ) (out : List (List Float)) (i q e : ℕ) (ms′ : List ℕ) (out′ : List (List Float)) (j : ℕ) : Type 0 where
       pub walked : ms′ ≡ marked c ms i q
       pub corners : out′ ≡ set out e (pointCode (pointAt t q))
-      pub next : j ≡ heading ms′ q
+      pub next : j ≡ heading near ms′ q

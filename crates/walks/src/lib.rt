@@ -1,4 +1,5 @@
 // The walk of one contour (`connect_edges`): from its first position over its edges until it is home again, or no end is left.
+// Where `near`, only the rows around a position that have its point are tried: see `round`.
 // `walked` holds 0 for a position that is not yet walked, c + 1 for one that is walked in contour c.
 ghost use mathlib.Core.Path.{_≡_};
 ghost use Prim.Native.Nat.{_+_, _<_};
@@ -35,10 +36,17 @@ fn set_mark(walked: &mut [u32], i: usize, mark: u32)
 }
 
 // Where a walk goes on from the end at q; the number of marks where it does not.
-fn aim_from(rows: &[[u32; 4]], at: &[[f64; 2]], walked: &[u32], home: Coordinate, q: u32) -> usize
-    ensures { λ r. ⌜ r ≡ heading (lent (now (rows .entry)) (now (at .entry))) home (now (walked .entry)) q ⌝ }
+fn aim_from(
+    rows: &[[u32; 4]],
+    at: &[[f64; 2]],
+    walked: &[u32],
+    near: bool,
+    home: Coordinate,
+    q: u32,
+) -> usize
+    ensures { λ r. ⌜ r ≡ heading (lent (now (rows .entry)) (now (at .entry))) home near (now (walked .entry)) q ⌝ }
 {
-    let j = next_pos(rows, at, walked, q);
+    let j = next_pos(rows, at, walked, near, q);
     let none = walked.len();
     if none <= j {
         return none;
@@ -56,13 +64,14 @@ fn step(
     at: &[[f64; 2]],
     walked: &mut [u32],
     corners: &mut [[f64; 2]],
+    near: bool,
     home: Coordinate,
     c: u16,
     pos: usize,
     q: u32,
     end: usize,
 ) -> usize
-    ensures { λ r. ⌜ Stepped (lent (now (rows .entry)) (now (at .entry))) home c (now (walked .entry)) (now (corners .entry)) pos q end (now (walked .exit)) (now (corners .exit)) r ⌝ }
+    ensures { λ r. ⌜ Stepped (lent (now (rows .entry)) (now (at .entry))) home near c (now (walked .entry)) (now (corners .entry)) pos q end (now (walked .exit)) (now (corners .exit)) r ⌝ }
 {
     let other = q as usize;
     let mark = c as u32 + 1;
@@ -70,7 +79,7 @@ fn step(
     set_mark(walked, other, mark);
     let p = point_at(at, other);
     put_point(corners, end, p);
-    aim_from(rows, at, walked, home, q)
+    aim_from(rows, at, walked, near, home, q)
 }
 
 // The edges from start on, no more of them than the table has rows.
@@ -79,13 +88,14 @@ fn edges_from(
     at: &[[f64; 2]],
     walked: &mut [u32],
     corners: &mut [[f64; 2]],
+    near: bool,
     home: Coordinate,
     c: u16,
     start: usize,
     first: usize,
 ) -> Edges
     requires { ⌜ first + length (now rows) < 18446744073709551616 ⌝ }
-    ensures { λ r. ⌜ trip (now (walked .exit)) (now (corners .exit)) (r .end) (r .last) ≡ edgesFrom (lent (now (rows .entry)) (now (at .entry))) home c (length (now (rows .entry))) (now (walked .entry)) (now (corners .entry)) first 0 start ⌝ }
+    ensures { λ r. ⌜ trip (now (walked .exit)) (now (corners .exit)) (r .end) (r .last) ≡ edgesFrom (lent (now (rows .entry)) (now (at .entry))) home near c (length (now (rows .entry))) (now (walked .entry)) (now (corners .entry)) first 0 start ⌝ }
 {
     let mut pos = start;
     let mut end = first;
@@ -94,7 +104,7 @@ fn edges_from(
     while k > 0 {
         let edge = end_at(rows, pos);
         last = edge.other;
-        pos = step(rows, at, walked, corners, home, c, pos, last, end);
+        pos = step(rows, at, walked, corners, near, home, c, pos, last, end);
         end += 1;
         k -= 1;
         if walked.len() <= pos {
@@ -116,11 +126,12 @@ pub fn walk_from(
     at: &[[f64; 2]],
     walked: &mut [u32],
     corners: &mut [[f64; 2]],
+    near: bool,
     c: u16,
     start: usize,
     first: u32,
 ) -> Walk
-    ensures { λ r. ⌜ toured (now (walked .exit)) (now (corners .exit)) r ≡ walkedFrom (lent (now (rows .entry)) (now (at .entry))) c start first (now (walked .entry)) (now (corners .entry)) ⌝ }
+    ensures { λ r. ⌜ toured (now (walked .exit)) (now (corners .exit)) r ≡ walkedFrom (lent (now (rows .entry)) (now (at .entry))) near c start first (now (walked .entry)) (now (corners .entry)) ⌝ }
 {
     let begin = first as usize;
     if rows.len() == 0 {
@@ -131,7 +142,7 @@ pub fn walk_from(
     }
     let home = point_at(at, start);
     put_point(corners, begin, home);
-    let edges = edges_from(rows, at, walked, corners, home, c, start, begin + 1);
+    let edges = edges_from(rows, at, walked, corners, near, home, c, start, begin + 1);
     let last = point_at(at, edges.last as usize);
     Walk {
         end: edges.end,

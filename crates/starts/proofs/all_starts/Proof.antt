@@ -12,8 +12,8 @@ use Rattle.starts.proofs.all_starts.Statement.{statement}
 use Rattle.starts.proofs.all_starts.Tie as tie
 
 abbrev Inv-loop : tie.InvT-loop
-Inv-loop rows at walked₀ corners₀ nests₀ n s₀ i₀ walked corners nests s i =
-    (starts (lent rows at) (length rows - i) i (sheet walked corners nests s) ≡ starts (lent rows at) (length rows) 0 (sheet walked₀ corners₀ nests₀ (turnOf 0 0 0 0 0)))
+Inv-loop rows at walked₀ corners₀ nests₀ near n s₀ i₀ walked corners nests s i =
+    (starts (lent rows at) near (length rows - i) i (sheet walked corners nests s) ≡ starts (lent rows at) near (length rows) 0 (sheet walked₀ corners₀ nests₀ (turnOf 0 0 0 0 0)))
     × (Within s nests i)
     × (i ≤ length rows)
     × (length walked ≡ length walked₀)
@@ -21,10 +21,10 @@ Inv-loop rows at walked₀ corners₀ nests₀ n s₀ i₀ walked corners nests 
     × (length nests ≡ length nests₀)
 
 abbrev μ-loop : tie.MeasureT-loop
-μ-loop rows at walked₀ corners₀ nests₀ n s₀ i₀ walked corners nests s i = length rows - i
+μ-loop rows at walked₀ corners₀ nests₀ near n s₀ i₀ walked corners nests s i = length rows - i
 
 loop-holds : tie.Need-loop-holds Inv-loop μ-loop
-loop-holds c = (start-of _ _ _ _ _ _ (c .nothing .ensures), within-none _ _ (c .nothing .ensures), omega arith, refl, refl, refl)
+loop-holds c = (start-of _ _ _ _ _ _ _ (c .nothing .ensures), within-none _ _ (c .nothing .ensures), omega arith, refl, refl, refl)
 
 start-at-requires : tie.Need-start-at-requires Inv-loop μ-loop
 start-at-requires c κs =
@@ -35,13 +35,13 @@ returns : tie.Need-returns Inv-loop μ-loop
 returns c =
     let s = c .before .before .before .before .before .before in
     let l = s .before .before .before .before in
-    starts-stop _ _ _ _ _ _ (l .loop-test .taken) (l .before .loop .inv .0) (s .start-at .ensures .0) (c .if1 .taken)
+    starts-stop _ _ _ _ _ _ _ (l .loop-test .taken) (l .before .loop .inv .0) (s .start-at .ensures .0) (c .if1 .taken)
 
 loop-again : tie.Need-loop-again Inv-loop μ-loop
 loop-again c =
     let s = c .before .before .before .before .before .before in
     let l = s .before .before .before .before in (
-      starts-on _ _ _ _ _ _ (l .loop-test .taken) (l .before .loop .inv .0) (s .start-at .ensures .0) (c .if1 .left),
+      starts-on _ _ _ _ _ _ _ (l .loop-test .taken) (l .before .loop .inv .0) (s .start-at .ensures .0) (c .if1 .left),
       s .start-at .ensures .1,
       omega (arith, l .loop-test .taken),
       s .start-at .kept .1 .1 .0 ∙ l .before .loop .inv .3,
@@ -50,7 +50,7 @@ loop-again c =
     )
 
 returns-2 : tie.Need-returns-2 Inv-loop μ-loop
-returns-2 c = starts-end _ _ _ _ _ (c .loop-test .left) (c .before .loop .inv .0)
+returns-2 c = starts-end _ _ _ _ _ _ (c .loop-test .left) (c .before .loop .inv .0)
 
 pub all-starts-spec : {M : Type 1} → statement M
 all-starts-spec =

@@ -17,8 +17,9 @@ returns-4 : tie.Need-returns-4
 returns-4 c =
     let all = c .before .before .before .before in
     let cleared = all .before .before .before .before .before .before in
-    let sizes = cleared .before .before in
-    traced-whole _ _ _ _ (sizes .before .before .if1 .left) (sizes .before .if2 .left) (sizes .if3 .left) _ _ (cleared .clear .ensures) (all .all-starts .ensures)
+    let asked = cleared .before .before in
+    let sizes = asked .before in
+    traced-whole _ _ _ _ (sizes .before .before .if1 .left) (sizes .before .if2 .left) (sizes .if3 .left) _ _ _ (asked .in-order .ensures) (cleared .clear .ensures) (all .all-starts .ensures)
 
 pub trace-starts-spec : {M : Type 1} → statement M
 trace-starts-spec =
@@ -30,6 +31,7 @@ trace-starts-spec =
     returns-2
     (λ c κs. tt)
     returns-3
+    (λ c κs. tt)
     (λ c κs. tt)
     (λ c κs. search needs)
     (λ c. search needs)

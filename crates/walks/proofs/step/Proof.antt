@@ -9,7 +9,7 @@ returns c =
     let put = c .before .before .before in
     let other = put .before .before .before .before .before in
     let own = other .before .before .before .before in
-    stepped _ _ _ _ _ _ _ _ _ _ _ _ _ (own .set-mark .ensures) (other .set-mark2 .ensures) (put .before .before .point-at .ensures) (put .put-point .ensures) (c .aim-from .ensures)
+    stepped _ _ _ _ _ _ _ _ _ _ _ _ _ _ (own .set-mark .ensures) (other .set-mark2 .ensures) (put .before .before .point-at .ensures) (put .put-point .ensures) (c .aim-from .ensures)
 
 pub step-spec : {M : Type 1} → statement M
 step-spec =

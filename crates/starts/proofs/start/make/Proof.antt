@@ -9,12 +9,12 @@ cast-end : tie.Need-cast-end
 cast-end c =
     let w = c .before .before .before .before in
     let p = w .before .before .before .before .pre in
-    omega (arith, walk-end _ _ _ _ _ _ _ _ _ (w .walk-from .ensures), p .2, p .3)
+    omega (arith, walk-end _ _ _ _ _ _ _ _ _ _ (w .walk-from .ensures), p .2, p .3)
 
 returns : tie.Need-returns
 returns c =
     let w = c .before .before .before .before .before .before .before .before in
-    made _ _ _ _ _ _ _ _ _ _ _ _ _ (w .walk-from .ensures) (c .before .before .put-nest .ensures) (c .counted .ensures)
+    made _ _ _ _ _ _ _ _ _ _ _ _ _ _ (w .walk-from .ensures) (c .before .before .put-nest .ensures) (c .counted .ensures)
 
 pub make-spec : {M : Type 1} → statement M
 make-spec =

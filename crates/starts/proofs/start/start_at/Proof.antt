@@ -7,7 +7,7 @@ use Rattle.starts.proofs.start.start_at.Statement.{statement}
 use Rattle.starts.proofs.start.start_at.Tie as tie
 
 returns : tie.Need-returns
-returns c = (start-pass _ _ _ _ _ _ _ (c .before .mark-at .ensures) (c .if1 .taken), within-more _ _ _ _ refl refl refl (c .before .before .before .before .pre .0))
+returns c = (start-pass _ _ _ _ _ _ _ _ (c .before .mark-at .ensures) (c .if1 .taken), within-more _ _ _ _ refl refl refl (c .before .before .before .before .pre .0))
 
 context-of-requires : tie.Need-context-of-requires
 context-of-requires c κs = let p = c .before .before .before .before .before .before .before .pre in shallow-up _ _ _ (p .1) (p .0 .deep)
@@ -15,7 +15,7 @@ context-of-requires c κs = let p = c .before .before .before .before .before .b
 returns-2 : tie.Need-returns-2
 returns-2 c =
     let m = c .before .before .before .before .before .before in (
-      start-refused _ _ _ _ _ _ _ (m .mark-at .ensures) (c .before .before .before .before .before .if1 .left) _ (c .before .before .before .before .end-at .ensures) _ (c .before .context-of .ensures) (c .if2 .taken),
+      start-refused _ _ _ _ _ _ _ _ (m .mark-at .ensures) (c .before .before .before .before .before .if1 .left) _ (c .before .before .before .before .end-at .ensures) _ (c .before .context-of .ensures) (c .if2 .taken),
       within-more _ _ _ _ refl refl refl (m .before .before .before .pre .0),
     )
 
@@ -32,8 +32,8 @@ returns-3 c =
     let e = x .before .before .before in
     let m = e .before .before in
     let p = m .before .before .before in (
-      start-made _ _ _ _ _ _ _ (m .mark-at .ensures) (e .before .if1 .left) _ (e .end-at .ensures) _ (x .context-of .ensures) (f .if2 .left) _ (k .make .ensures),
-      made-within _ _ _ _ _ _ _ _ _ _ _ _ (k .make .ensures) (deep-of _ _ _ _ _ _ _ (x .context-of .ensures) (p .pre .0 .deep)) (p .pre .0) (p .pre .2),
+      start-made _ _ _ _ _ _ _ _ (m .mark-at .ensures) (e .before .if1 .left) _ (e .end-at .ensures) _ (x .context-of .ensures) (f .if2 .left) _ (k .make .ensures),
+      made-within _ _ _ _ _ _ _ _ _ _ _ _ _ (k .make .ensures) (deep-of _ _ _ _ _ _ _ (x .context-of .ensures) (p .pre .0 .deep)) (p .pre .0) (p .pre .2),
     )
 
 pub start-at-spec : {M : Type 1} → statement M
