@@ -1,5 +1,6 @@
 //! Inputs that find mistakes: the same for every program of the comparison.
 pub mod families;
+pub mod plans;
 pub mod random;
 pub mod records;
 pub mod sheets;

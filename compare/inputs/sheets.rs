@@ -46,7 +46,7 @@ pub fn sheet(number: u64, random: &mut Random) -> Sheet {
 }
 
 /// The edges of a closed ring, in one direction or the other.
-fn ring(corners: &[Point], subject: bool, number: u32, random: &mut Random) -> Sheet {
+pub(crate) fn ring(corners: &[Point], subject: bool, number: u32, random: &mut Random) -> Sheet {
     let backwards = random.one_in(2);
     (0..corners.len())
         .map(|i| {
@@ -57,7 +57,7 @@ fn ring(corners: &[Point], subject: bool, number: u32, random: &mut Random) -> S
         .collect()
 }
 
-fn rectangle([x, y]: Point, [w, h]: Point) -> [Point; 4] {
+pub(crate) fn rectangle([x, y]: Point, [w, h]: Point) -> [Point; 4] {
     [[x, y], [x + w, y], [x + w, y + h], [x, y + h]]
 }
 
@@ -107,7 +107,7 @@ fn triangles(random: &mut Random) -> Sheet {
 }
 
 /// A ring of n corners round a centre, at changing distances.
-fn star(n: u64, centre: Point, size: f64, grid: Option<f64>, random: &mut Random) -> Vec<Point> {
+pub(crate) fn star(n: u64, centre: Point, size: f64, grid: Option<f64>, random: &mut Random) -> Vec<Point> {
     (0..n)
         .map(|i| {
             let angle = (i as f64 + 0.8 * random.unit()) / n as f64 * std::f64::consts::TAU;

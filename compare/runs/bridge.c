@@ -1,21 +1,20 @@
-/* The stages for another process: a request on standard input, its answer on standard output, numbers as this machine holds them.
+/* The stages and the sheet entry for another process: a request on standard input, its answer on standard output, numbers as this machine holds them.
    The comparison talks to it through pipes, so that it also runs where the archive's processor is emulated.
 
-   sweep:   1, edges, operation, places, rounds; ends, labels
-            -> refusals of loading and of the sweep, place, nanoseconds; counts; points, marks of the places in use; taken
-   connect: 2, places, listed, corners, contours, holes, rounds; points, marks, list
-            -> refusal, place, nanoseconds; counts; corners, contours, holes */
-#define _POSIX_C_SOURCE 199309L
+   sweep:   1, edges, operation, places; ends, labels
+            -> refusals of loading and of the sweep, place; counts; points, marks of the places in use; taken
+   connect: 2, places, listed, corners, contours, holes; points, marks, list
+            -> refusal, place; counts; corners, contours, holes
+   overlay: 3, bytes, room; bytes
+            -> refusal, place, length; text */
 #include <bezorika.h>
 #include <stdio.h>
 #include <stdlib.h>
-#include <string.h>
-#include <time.h>
 
 enum { SIZE = 4096 };
 
-static double ends[SIZE][4], points[SIZE][2], first_points[SIZE][2], corners[SIZE][2];
-static uint32_t labels[SIZE][2], marks[SIZE][12], first_marks[SIZE][12], list[SIZE], contours[SIZE][6], holes[SIZE], counts[4];
+static double ends[SIZE][4], points[SIZE][2], corners[SIZE][2];
+static uint32_t labels[SIZE][2], marks[SIZE][12], list[SIZE], contours[SIZE][6], holes[SIZE], counts[4];
 
 static void get(void *into, size_t bytes)
 {
@@ -29,27 +28,15 @@ static void put(const void *from, size_t bytes)
         exit(1);
 }
 
-static uint64_t now(void)
-{
-    struct timespec t;
-    clock_gettime(CLOCK_MONOTONIC, &t);
-    return (uint64_t)t.tv_sec * 1000000000u + (uint64_t)t.tv_nsec;
-}
-
 static void sweep(void)
 {
-    uint32_t head[4], used = 0;
-    uint64_t told[4] = {0, 0, 0, UINT64_MAX};
+    uint32_t head[3], used = 0;
+    uint64_t told[3] = {0, 0, 0};
     get(head, sizeof head);
     get(ends, head[0] * sizeof ends[0]);
     get(labels, head[0] * sizeof labels[0]);
-    for (uint32_t round = 0; round < head[3]; round++) {
-        uint64_t start = now();
-        told[0] = bezorika_load(ends, head[0], labels, head[0], points, head[2], marks, head[2], &used, &told[2]);
-        told[1] = bezorika_subdivide(points, head[2], marks, head[2], used, head[1], list, head[2], counts, &told[2]);
-        uint64_t took = now() - start;
-        told[3] = took < told[3] ? took : told[3];
-    }
+    told[0] = bezorika_load(ends, head[0], labels, head[0], points, head[2], marks, head[2], &used, &told[2]);
+    told[1] = bezorika_subdivide(points, head[2], marks, head[2], used, head[1], list, head[2], counts, &told[2]);
     put(told, sizeof told);
     put(counts, sizeof counts);
     put(points, counts[2] * sizeof points[0]);
@@ -59,26 +46,36 @@ static void sweep(void)
 
 static void connect(void)
 {
-    uint32_t head[6];
-    uint64_t told[3] = {0, 0, UINT64_MAX};
+    uint32_t head[5];
+    uint64_t told[2] = {0, 0};
     get(head, sizeof head);
-    get(first_points, head[0] * sizeof points[0]);
-    get(first_marks, head[0] * sizeof marks[0]);
+    get(points, head[0] * sizeof points[0]);
+    get(marks, head[0] * sizeof marks[0]);
     get(list, head[1] * sizeof list[0]);
-    for (uint32_t round = 0; round < head[5]; round++) {
-        memcpy(points, first_points, sizeof points);
-        memcpy(marks, first_marks, sizeof marks);
-        uint64_t start = now();
-        told[0] = bezorika_connect(points, head[0], marks, head[0], list, head[1], corners, head[2], contours, head[3], holes,
-            head[4], counts, &told[1]);
-        uint64_t took = now() - start;
-        told[2] = took < told[2] ? took : told[2];
-    }
+    told[0] = bezorika_connect(points, head[0], marks, head[0], list, head[1], corners, head[2], contours, head[3], holes,
+        head[4], counts, &told[1]);
     put(told, sizeof told);
     put(counts, sizeof counts);
     put(corners, counts[1] * sizeof corners[0]);
     put(contours, counts[0] * sizeof contours[0]);
     put(holes, counts[2] * sizeof holes[0]);
+}
+
+/* In buffers of its own; what lies round them is watched by compare/memory. */
+static void overlay(void)
+{
+    uint32_t head[2];
+    uint64_t told[3] = {0, 0, 0};
+    get(head, sizeof head);
+    uint8_t *bytes = malloc(head[0] + 1), *out = malloc(head[1] + 1);
+    if (!bytes || !out)
+        exit(1);
+    get(bytes, head[0]);
+    told[0] = bezorika_overlay(bytes, head[0], out, head[1], &told[2], &told[1]);
+    put(told, sizeof told);
+    put(out, told[2]);
+    free(bytes);
+    free(out);
 }
 
 int main(void)
@@ -91,8 +88,10 @@ int main(void)
         get(&kind, sizeof kind);
         if (kind == 1)
             sweep();
-        else
+        else if (kind == 2)
             connect();
+        else
+            overlay();
         fflush(stdout);
     }
 }

@@ -83,7 +83,7 @@ fn is_result(event: &Event) -> bool {
     if event.is_left() { event.is_in_result() } else { mate(event).is_in_result() }
 }
 
-fn is_half_listed(listed: &[Event]) -> bool {
+pub fn is_half_listed(listed: &[Event]) -> bool {
     let listed_set: std::collections::HashSet<_> = listed.iter().map(Rc::as_ptr).collect();
     listed.iter().any(|event| is_result(event) && !listed_set.contains(&Rc::as_ptr(&mate(event))))
 }

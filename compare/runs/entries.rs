@@ -1,4 +1,4 @@
-//! The archive's stage entries, behind a process that links them (`bridge.c`): loading, the sweep and connection.
+//! The archives' entries, behind a process that links them (`bridge.c`): loading, the sweep, connection, and whole sheets.
 use geo_booleanop::boolean::Operation;
 use inputs::sheets::Edge;
 use std::io::{BufReader, BufWriter, Read, Write};
@@ -63,7 +63,6 @@ pub struct Swept {
     pub used: usize,
     pub tied: bool,
     pub refused: Option<Refused>,
-    pub nanoseconds: u64,
 }
 
 pub struct Connected {
@@ -72,7 +71,6 @@ pub struct Connected {
     pub holes: Vec<u32>,
     pub unclosed: usize,
     pub refused: Option<Refused>,
-    pub nanoseconds: u64,
 }
 
 impl Bridge {
@@ -89,8 +87,8 @@ impl Bridge {
         Bridge { process, to, from }
     }
 
-    pub fn sweep(&mut self, sheet: &[Edge], operation: Operation, size: usize, rounds: u32) -> Swept {
-        self.put(&[1, sheet.len() as u32, operation_number(operation), size as u32, rounds]);
+    pub fn sweep(&mut self, sheet: &[Edge], operation: Operation, size: usize) -> Swept {
+        self.put(&[1, sheet.len() as u32, operation_number(operation), size as u32]);
         for e in sheet {
             self.put_numbers(&[e.from[0], e.from[1], e.to[0], e.to[1]]);
         }
@@ -98,7 +96,7 @@ impl Bridge {
             self.put(&[e.ring, e.subject as u32]);
         }
         self.to.flush().expect("the bridge listens");
-        let [load, number, place, nanoseconds]: [u64; 4] = self.words();
+        let [load, number, place]: [u64; 3] = self.words();
         assert_eq!(load, 0, "every sheet loads");
         let [taken, divisions, used, tied]: [u32; 4] = self.marks();
         let points = (0..used).map(|_| self.numbers()).collect();
@@ -111,19 +109,18 @@ impl Bridge {
             used: used as usize,
             tied: tied == 1,
             refused: (number != 0).then_some((number, place)),
-            nanoseconds,
         }
     }
 
     /// With just as much room as refusal 5 asks for, or more.
-    pub fn connect(&mut self, pool: &Pool, list: &[u32], room: [usize; 3], rounds: u32) -> Connected {
+    pub fn connect(&mut self, pool: &Pool, list: &[u32], room: [usize; 3]) -> Connected {
         let [corners, contours, holes] = room.map(|n| n as u32);
-        self.put(&[2, pool.points.len() as u32, list.len() as u32, corners, contours, holes, rounds]);
+        self.put(&[2, pool.points.len() as u32, list.len() as u32, corners, contours, holes]);
         pool.points.iter().for_each(|p| self.put_numbers(p));
         pool.marks.iter().for_each(|m| self.put(m));
         self.put(list);
         self.to.flush().expect("the bridge listens");
-        let [number, place, nanoseconds]: [u64; 3] = self.words();
+        let [number, place]: [u64; 2] = self.words();
         let [contours, corners, holes, unclosed]: [u32; 4] = self.marks();
         Connected {
             corners: (0..corners).map(|_| self.numbers()).collect(),
@@ -131,8 +128,18 @@ impl Bridge {
             holes: (0..holes).map(|_| self.marks::<1>()[0]).collect(),
             unclosed: unclosed as usize,
             refused: (number != 0).then_some((number, place)),
-            nanoseconds,
         }
+    }
+
+    /// The text that a sheet gives in so many bytes.
+    pub fn overlay(&mut self, sheet: &[u8], room: u32) -> Result<String, Refused> {
+        self.put(&[3, sheet.len() as u32, room]);
+        self.to.write_all(sheet).expect("the bridge listens");
+        self.to.flush().expect("the bridge listens");
+        let [number, place, length]: [u64; 3] = self.words();
+        let mut text = vec![0; length as usize];
+        self.from.read_exact(&mut text).expect("the bridge answers");
+        if number == 0 { Ok(String::from_utf8(text).expect("it is plain text")) } else { Err((number, place)) }
     }
 
     fn put(&mut self, marks: &[u32]) {

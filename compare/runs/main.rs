@@ -1,23 +1,26 @@
-//! Whole runs: runs COUNT SEED BRIDGE.... The archive's sweep and connection, behind the command BRIDGE, beside the
-//! published ones on the same inputs; then the times of both. Exit status 1 if any differ.
+//! Whole runs: runs COUNT SEED BRIDGE.... The archive's sweep, connection and sheets, behind the command BRIDGE, beside
+//! the published ones on the same inputs. Exit status 1 if any differ.
 mod clean;
 mod contours;
 mod entries;
 mod events;
 mod lists;
 mod sweep;
-mod timing;
+mod texts;
 
 use contours::Compared;
 use entries::Bridge;
 use events::Event;
+use geo_booleanop::boolean::leaves::Contour;
 use geo_booleanop::boolean::Operation;
 use inputs::random::Random;
 use inputs::sheets::{self, Edge};
 use std::collections::BTreeMap;
+use texts::Theirs;
 
 /// Places of the pool that a run is lent.
 const SIZE: usize = 4096;
+const LARGE: &str = "64 edges and 50 divisions or more";
 const OPERATIONS: [Operation; 4] = [Operation::Intersection, Operation::Union, Operation::Difference, Operation::Xor];
 
 #[derive(Default)]
@@ -51,6 +54,7 @@ struct Rows {
     sweep: Row,
     rules: Row,
     connect: Row,
+    overlay: Row,
 }
 
 fn main() {
@@ -77,16 +81,20 @@ fn main() {
     rows.sweep.print("sweep, clean runs, the Rust's subdivide");
     rows.rules.print("sweep, no tie taken, 01's rules over the Rust's leaves");
     rows.connect.print("connect, the Rust's connect_edges");
-    timing::print(&mut bridge, seed);
-    let all = [&rows.sweep, &rows.rules, &rows.connect];
+    rows.overlay.print("overlay, clean runs, text against the Rust's contours");
+    let all = [&rows.sweep, &rows.rules, &rows.connect, &rows.overlay];
     if all.iter().any(|row| row.compared == 0 || row.differing > 0) {
         std::process::exit(1);
     }
 }
 
+fn is_large(sheet: &[Edge], divisions: usize) -> bool {
+    sheet.len() >= 64 && divisions >= 50
+}
+
 fn compare_run(i: u64, sheet: &[Edge], operation: Operation, bridge: &mut Bridge, random: &mut Random, rows: &mut Rows) {
     let run = clean::sweep(sheet, operation, SIZE);
-    let swept = bridge.sweep(sheet, operation, SIZE, 1);
+    let swept = bridge.sweep(sheet, operation, SIZE);
     if let Some((number, _)) = swept.refused {
         rows.sweep.count(&format!("refused {number}"));
     }
@@ -113,17 +121,20 @@ fn compare_run(i: u64, sheet: &[Edge], operation: Operation, bridge: &mut Bridge
         None => {
             let published = sweep::published(sheet, operation);
             rows.sweep.add("sweep", i, sweep::is_alike(&published.taken, published.divisions, &swept));
-            if sheet.len() >= 64 && swept.divisions >= 50 {
-                rows.sweep.count("64 edges and 50 divisions or more");
+            if is_large(sheet, published.divisions) {
+                rows.sweep.count(LARGE);
             }
-            compare_list(i, &published.taken, bridge, random, &mut rows.connect);
+            let contours = compare_list(i, &published.taken, bridge, random, &mut rows.connect);
+            let theirs = Theirs { listed: &published.taken, divisions: published.divisions, contours };
+            compare_sheet(i, sheet, operation, &theirs, bridge, &mut rows.overlay);
         }
     }
 }
 
-fn compare_list(i: u64, listed: &[Event], bridge: &mut Bridge, random: &mut Random, row: &mut Row) {
+/// Gives back what the Rust made of the list.
+fn compare_list(i: u64, listed: &[Event], bridge: &mut Bridge, random: &mut Random, row: &mut Row) -> Option<Vec<Contour<f64>>> {
     let (pool, list) = contours::numbered(listed, random);
-    let ours = bridge.connect(&pool, &list, contours::room(listed), 1);
+    let ours = bridge.connect(&pool, &list, contours::room(listed));
     let theirs = contours::published(listed);
     match contours::compared(listed, &theirs, &ours) {
         Compared::Alike => row.add("connect", i, true),
@@ -133,7 +144,20 @@ fn compare_list(i: u64, listed: &[Event], bridge: &mut Bridge, random: &mut Rand
     if contours::result_edges(listed) >= 100 {
         row.count("100 result edges or more");
     }
-    if theirs.is_some_and(|contours| contours::hole_depth(&contours) >= 2) {
+    if theirs.as_ref().is_some_and(|contours| contours::hole_depth(contours) >= 2) {
         row.count("holes at depth 2 or more");
+    }
+    theirs
+}
+
+fn compare_sheet(i: u64, sheet: &[Edge], operation: Operation, theirs: &Theirs, bridge: &mut Bridge, row: &mut Row) {
+    match texts::compared(sheet, operation, theirs, bridge) {
+        Compared::Refused(number) => return row.count(&format!("refused {number}")),
+        Compared::Alike => row.add("overlay", i, true),
+        Compared::Differing => row.add("overlay", i, false),
+    }
+    row.count(texts::operation_word(operation));
+    if is_large(sheet, theirs.divisions) {
+        row.count(LARGE);
     }
 }

@@ -1,10 +1,10 @@
 //! Nanoseconds a call, ours beside the Rust's, on the same inputs in one run.
-use crate::{entries, rust_crossing, rust_orientation};
+use crate::clock::now;
+use crate::{entries, published};
 use inputs::families::{self, Family};
 use inputs::random::Random;
 use inputs::Scene;
 use std::hint::black_box;
-use std::time::Instant;
 
 const SCENES: u64 = 20_000;
 const ROUNDS: usize = 15;
@@ -16,16 +16,25 @@ const ORIENTATION: &[(&str, Family)] = &[
     ("computed on a line", families::computed_on_a_line),
 ];
 
+/// A stand-in slower than this on ordinary input would make no baseline.
+const BASELINE: f64 = 15.0;
+
 pub fn print(seed: u64) {
-    println!("{:<34}{:>8}{:>8}", "nanoseconds a call", "ours", "Rust");
+    println!("Single calls, nanoseconds\n\n| call | ours | the Rust | ratio |\n|---|---|---|---|");
+    let mut standin = vec![];
     for (name, family) in ORIENTATION {
         let scenes = made(|_, random| family(random), seed);
-        let [ours, rust] = both(&scenes, entries::orientation, rust_orientation);
-        println!("{:<34}{ours:>8.1}{rust:>8.1}  stand-in", format!("orientation, {name}"));
+        let times = both(&scenes, entries::orientation, published::orientation);
+        row(&format!("orientation, {name} (stand-in for `robust`)"), times);
+        standin.push(times[1]);
     }
-    let scenes = made(families::scene, seed);
-    let [ours, rust] = both(&scenes, entries::crossing, rust_crossing);
-    println!("{:<34}{ours:>8.1}{rust:>8.1}", "crossing, all families");
+    row("crossing, all families", both(&made(families::scene, seed), entries::crossing, published::crossing));
+    let verdict = if standin[0] <= BASELINE { "a baseline" } else { "too slow for a baseline" };
+    println!("\nThe stand-in for `robust`, ordinary input: {:.1} ns a call, {verdict} (at most {BASELINE})", standin[0]);
+}
+
+fn row(call: &str, [ours, rust]: [f64; 2]) {
+    println!("| {call} | {ours:.1} | {rust:.1} | {:.2} |", ours / rust);
 }
 
 fn made(scene: impl Fn(u64, &mut Random) -> Scene, seed: u64) -> Vec<Scene> {
@@ -44,9 +53,9 @@ fn both<A>(scenes: &[Scene], ours: impl Fn(Scene) -> A, rust: impl Fn(Scene) -> 
 }
 
 fn round<A>(scenes: &[Scene], call: &impl Fn(Scene) -> A) -> f64 {
-    let start = Instant::now();
+    let start = now();
     for scene in scenes {
         black_box(call(black_box(*scene)));
     }
-    start.elapsed().as_nanos() as f64 / scenes.len() as f64
+    (now() - start) as f64 / scenes.len() as f64
 }

@@ -1,0 +1,47 @@
+//! The quickest of some rounds, in microseconds of this thread's own time: others on the machine do not count.
+
+extern "C" {
+    fn clock_gettime(clock: i32, time: &mut [i64; 2]) -> i32;
+}
+
+const THREAD_TIME: i32 = 3;
+/// Rounds go on for so many nanoseconds, so that one of them is not disturbed.
+const LONG_ENOUGH: u64 = 100_000_000;
+const FEWEST: usize = 5;
+
+/// Nanoseconds.
+pub fn now() -> u64 {
+    let mut time = [0; 2];
+    // SAFETY: the reference is to two words of our own, as a 64-bit Linux has them.
+    let code = unsafe { clock_gettime(THREAD_TIME, &mut time) };
+    assert_eq!(code, 0, "this thread's clock");
+    time[0] as u64 * 1_000_000_000 + time[1] as u64
+}
+
+/// One way to do the work: what is made ready before the clock starts, and what is timed.
+pub struct Way<'a> {
+    pub prepare: Box<dyn FnMut() + 'a>,
+    pub run: Box<dyn FnMut() + 'a>,
+}
+
+/// Nothing is to be made ready.
+pub fn plain<'a>(run: impl FnMut() + 'a) -> Way<'a> {
+    Way { prepare: Box::new(|| ()), run: Box::new(run) }
+}
+
+/// All ways in turn, so that they meet the same machine.
+pub fn quickest<const N: usize>(mut ways: [Way; N]) -> [f64; N] {
+    let mut best = [f64::INFINITY; N];
+    let first = now();
+    let mut rounds = 0;
+    while rounds < FEWEST || now() - first < LONG_ENOUGH * N as u64 {
+        for (way, best) in ways.iter_mut().zip(&mut best) {
+            (way.prepare)();
+            let start = now();
+            (way.run)();
+            *best = best.min((now() - start) as f64 / 1000.0);
+        }
+        rounds += 1;
+    }
+    best
+}

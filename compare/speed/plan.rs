@@ -1,0 +1,54 @@
+//! One plan: what is known of it, and that all who compute its union say the same.
+use crate::peers::Rings;
+use crate::stages::Stages;
+use crate::{theirs, SEED};
+use inputs::plans::Family;
+use inputs::random::Random;
+use inputs::sheets::Sheet;
+
+pub struct Plan {
+    pub name: &'static str,
+    pub sheet: Sheet,
+}
+
+/// What of a plan stands in each row, and whether our map is the Rust's and its area that of the peers.
+pub struct Known {
+    pub edges: usize,
+    pub divisions: usize,
+    pub largest_status: i64,
+    pub alike: bool,
+}
+
+impl Plan {
+    pub fn of(name: &'static str, family: Family, edges: u64) -> Plan {
+        Plan { name, sheet: family(edges, &mut Random(SEED)) }
+    }
+
+    pub fn known(&self, size: usize) -> Known {
+        let mut stages = Stages::of(&self.sheet, size);
+        stages.run();
+        let rings = Rings::of(&self.sheet);
+        let area = stages.area();
+        Known {
+            edges: self.sheet.len(),
+            divisions: stages.divisions(),
+            largest_status: stages.largest_status(),
+            alike: stages.corners() == theirs::corners(&self.sheet)
+                && [rings.geos(), rings.clipper()].iter().all(|peer| (peer - area).abs() < 1e-4 * area),
+        }
+    }
+
+    /// The text that `overlay` reads.
+    pub fn text(&self) -> Vec<u8> {
+        let mut text = String::from("operation union\n");
+        for (layer, subject) in [("subject", true), ("clip", false)] {
+            let edges: Vec<_> = self.sheet.iter().filter(|e| e.subject == subject).collect();
+            text += &format!("{layer} {}\n", edges.len());
+            for e in edges {
+                let [a, b, c, d] = [e.from[0], e.from[1], e.to[0], e.to[1]].map(f64::to_bits);
+                text += &format!("{} {a:016x} {b:016x} {c:016x} {d:016x}\n", e.ring);
+            }
+        }
+        text.into_bytes()
+    }
+}
