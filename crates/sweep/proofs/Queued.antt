@@ -1,6 +1,6 @@
 -- The queue in the first n places of an array: what each of the code's steps makes of it is what the definitions say.
 use mathlib.Core.Path.{_≡_, refl, sym, _∙_}
-use mathlib.Core.Bool.{Bool, true, false}
+use mathlib.Core.Bool.{Bool, true, false, cond}
 use mathlib.Core.List.{List, [], append-nil}
 use Prim.Native.Nat.{ℕ, zero, suc, _+_, _-_, _/_, _<_, _≤_}
 use native.Mathlib.Numerals.{add-one}
@@ -12,7 +12,7 @@ use lib.Seq.{take-all, length-take-le, getD-take}
 use Rattle.lists.specs.Lists.{inserted, removed}
 use Rattle.status.specs.Status.{slot, remove}
 use Rattle.status.proofs.Members.{members-inserted, members-removed}
-use Rattle.waiting.specs.Queue.{leads, halving, place, put, without, evicted, admit, admitted, requeued}
+use Rattle.waiting.specs.Queue.{leads, halving, place, put, without, isOlder, evicted, admit, admitted, requeued}
 
 -- ---- a place found by halving
 
@@ -92,17 +92,17 @@ module _ (s : List ℕ) (n o at : ℕ) (fit : n ≤ length s) (e : at ≡ slot (
 -- ---- the new records, one by one
 
 -- none yet
-module _ (partner : ℕ → ℕ) (from : ℕ) (l : List ℕ) where
+module _ (partner : ℕ → ℕ) (from : ℕ) (waits : ℕ → Bool) (l : List ℕ) where
   none-yet : from - from ≡ 0
   none-yet = omega arith
 
-  pub evicted-none : l ≡ evicted partner from (from - from) l
+  pub evicted-none : l ≡ evicted partner from waits (from - from) l
   unfolding evicted
   evicted-none = rw none-yet
 
-  pub admitted-none : (waits : ℕ → Bool) (before : ℕ → ℕ → Bool) (room : ℕ) → l ≡ admitted partner from waits before room (from - from) l
+  pub admitted-none : (before : ℕ → ℕ → Bool) (room : ℕ) → l ≡ admitted partner from waits before room (from - from) l
   unfolding admitted
-  admitted-none waits before room = rw none-yet
+  admitted-none before room = rw none-yet
 
 -- the step from record r to the next
 module _ (from r : ℕ) (h : from ≤ r) where
@@ -112,35 +112,50 @@ module _ (from r : ℕ) (h : from ≤ r) where
   count-back : from + (r - from) ≡ r
   count-back = omega arith
 
-  module _ (partner : ℕ → ℕ) (l m m' : List ℕ) where
-    pub evicted-next : m ≡ evicted partner from (r - from) l → (o : ℕ) → o ≡ partner r → m' ≡ without m o → m' ≡ evicted partner from (r + 1 - from) l
+  module _ (partner : ℕ → ℕ) (waits : ℕ → Bool) (l m m' : List ℕ) where
+    pub evicted-next : m ≡ evicted partner from waits (r - from) l → (o : ℕ) → o ≡ partner r
+        → m' ≡ cond (isOlder from waits o) (without m o) m → m' ≡ evicted partner from waits (r + 1 - from) l
     unfolding evicted
     evicted-next e o ho f = rw (count-on, count-back, ← e, ← ho) f
 
-    pub admitted-next : (waits : ℕ → Bool) (before : ℕ → ℕ → Bool) (room now : ℕ) → now ≡ room
+    pub admitted-next : (before : ℕ → ℕ → Bool) (room now : ℕ) → now ≡ room
         → m ≡ admitted partner from waits before room (r - from) l → m' ≡ admit partner from waits before now m r
         → m' ≡ admitted partner from waits before room (r + 1 - from) l
     unfolding admitted
-    admitted-next waits before room now k e f = rw (count-on, count-back, ← e, ← k) f
+    admitted-next before room now k e f = rw (count-on, count-back, ← e, ← k) f
+
+-- one partner, taken out if it is older and waits
+module _ (from : ℕ) (waits : ℕ → Bool) (l : List ℕ) (o : ℕ) where
+  pub evict-young : from ≤ o → l ≡ cond (isOlder from waits o) (without l o) l
+  unfolding isOlder
+  evict-young h = rw (le-ltb o from h)
+
+  pub evict-taken : o < from → {w : Bool} → w ≡ waits o → w ≡ false → l ≡ cond (isOlder from waits o) (without l o) l
+  unfolding isOlder
+  evict-taken h hw f = rw (lt-ltb o from h, ← hw, f)
+
+  pub evict-old : o < from → {w : Bool} → w ≡ waits o → w ≡ true → (m : List ℕ) → m ≡ without l o → m ≡ cond (isOlder from waits o) (without l o) l
+  unfolding isOlder
+  evict-old h hw f m e = rw (lt-ltb o from h, ← hw, f) e
 
 -- one record, with its partner if that is older and waits
 module _ (partner : ℕ → ℕ) (from : ℕ) (waits : ℕ → Bool) (before : ℕ → ℕ → Bool) (room : ℕ) (l m : List ℕ) (r o : ℕ) (ho : o ≡ partner r) (hm : m ≡ put before room l r) where
   pub admit-young : from ≤ o → m ≡ admit partner from waits before room l r
-  unfolding admit
+  unfolding admit isOlder
   admit-young h = rw (← ho, le-ltb o from h) hm
 
   pub admit-taken : o < from → {w : Bool} → w ≡ waits o → w ≡ false → m ≡ admit partner from waits before room l r
-  unfolding admit
+  unfolding admit isOlder
   admit-taken h hw f = rw (← ho, lt-ltb o from h, ← hw, f) hm
 
   pub admit-old : o < from → {w : Bool} → w ≡ waits o → w ≡ true → (m' : List ℕ) (now : ℕ) → now ≡ room → m' ≡ put before now m o
       → m' ≡ admit partner from waits before room l r
-  unfolding admit
+  unfolding admit isOlder
   admit-old h hw f m' now k e = rw (← ho, lt-ltb o from h, ← hw, f, ← hm, ← k) e
 
 -- ---- all of them
 
 pub requeued-is : (partner : ℕ → ℕ) (from : ℕ) (waits : ℕ → Bool) (before : ℕ → ℕ → Bool) (room n : ℕ) (l m m' : List ℕ) (now : ℕ) → now ≡ room
-    → m ≡ evicted partner from n l → m' ≡ admitted partner from waits before now n m → m' ≡ requeued partner from waits before room n l
+    → m ≡ evicted partner from waits n l → m' ≡ admitted partner from waits before now n m → m' ≡ requeued partner from waits before room n l
 unfolding requeued
 requeued-is partner from waits before room n l m m' now k e f = rw (← e, ← k) f

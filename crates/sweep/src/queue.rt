@@ -1,5 +1,6 @@
 // The queue of waiting events: the first n places of an array, the next event last.
 ghost use mathlib.Core.Path.{_≡_};
+ghost use mathlib.Core.Bool.{cond};
 ghost use Prim.Native.Nat.{_-_, _≤_};
 ghost use lib.ListN.{length, take};
 ghost use Rattle.events.specs.Pool.{pool, stored};
@@ -77,24 +78,39 @@ fn take_out(queue: &mut [u32], n: u32, o: u32) -> u32
     n - 1
 }
 
-// The partners of the records from `from` on are taken out.
-fn evict(
+// Takes number o out, if it is older than `from` and waits: no other is a member.
+fn evict(waits: &[bool], from: u32, queue: &mut [u32], n: u32, o: u32) -> u32
+    requires { ⌜ n ≤ length (now queue) ⌝ }
+    ensures { λ r. ⌜ take r (now (queue .exit)) ≡ cond (Queue.isOlder from (flagged (now (waits .entry))) o) (Queue.without (take n (now (queue .entry))) o) (take n (now (queue .entry))) ⌝ }
+    ensures { λ r. ⌜ r ≤ length (now (queue .exit)) ⌝ }
+{
+    if o < from {
+        if is_waiting(waits, o) {
+            return take_out(queue, n, o);
+        }
+    }
+    n
+}
+
+// The older partners of the records from `from` on are taken out.
+fn evict_all(
     points: &[[f64; 2]],
     marks: &[[u32; 12]],
+    waits: &[bool],
     from: u32,
     used: u32,
     queue: &mut [u32],
     n: u32,
 ) -> u32
     requires { ⌜ n ≤ length (now queue) ⌝ }
-    ensures { λ r. ⌜ take r (now (queue .exit)) ≡ Queue.evicted (λ i. look stored (pool (now (points .entry)) (now (marks .entry))) used i .partner) from (used - from) (take n (now (queue .entry))) ⌝ }
+    ensures { λ r. ⌜ take r (now (queue .exit)) ≡ Queue.evicted (λ i. look stored (pool (now (points .entry)) (now (marks .entry))) used i .partner) from (flagged (now (waits .entry))) (used - from) (take n (now (queue .entry))) ⌝ }
     ensures { λ r. ⌜ r ≤ length (now (queue .exit)) ⌝ }
 {
     let mut last = n;
     let mut r = from;
     while r < used {
         let f = read_used(points, marks, used, r);
-        last = take_out(queue, last, f.partner);
+        last = evict(waits, from, queue, last, f.partner);
         r += 1;
     }
     last
@@ -163,6 +179,6 @@ pub fn requeue(
     ensures { λ x. ⌜ take x (now (queue .exit)) ≡ Queue.requeued (λ i. look stored (pool (now (points .entry)) (now (marks .entry))) used i .partner) from (flagged (now (waits .entry))) (beforeUsed (pool (now (points .entry)) (now (marks .entry))) used) (length (now (queue .entry))) (used - from) (take n (now (queue .entry))) ⌝ }
     ensures { λ x. ⌜ x ≤ length (now (queue .exit)) ⌝ }
 {
-    let m = evict(points, marks, from, used, queue, n);
+    let m = evict_all(points, marks, waits, from, used, queue, n);
     admit_all(points, marks, waits, from, used, queue, m)
 }

@@ -6,7 +6,7 @@ use Prim.Native.Nat.{ℕ, zero, suc, _+_, _<_, _≤_}
 use native.Mathlib.Omega.{arith}
 use lib.Dec.{eqb, ltb}
 use borrow.Author.Tests.{ltb-true, ltb-false, lt-ltb, le-ltb, le-leb, eqb-true, ne-eqb}
-use Rattle.waiting.specs.Queue.{Queued, put, evicted, admit, admitted, requeued}
+use Rattle.waiting.specs.Queue.{Queued, put, isOlder, evicted, admit, admitted, requeued}
 use Rattle.waiting.proofs.Leading.{Orders}
 use Rattle.waiting.proofs.Members.{both, unless}
 use Rattle.waiting.proofs.Puts.{queued-alike, put-is}
@@ -92,7 +92,7 @@ module _ (partner : ℕ → ℕ) (from n : ℕ) (pairs : (r : ℕ) → r < from 
       one-in = put-is O Q x (omega arith) x-new room fits
 
       admit-is : Queued (held partner from n waits (suc k)) before (from + n) (admit partner from waits before room m x)
-      unfolding admit
+      unfolding admit isOlder
       admit-is = go (ltb o from && waits o) refl
         where
           go : (t : Bool) → (ltb o from && waits o) ≡ t
@@ -122,4 +122,4 @@ unfolding requeued
 requeue-is partner from n room waits before before′ l O Q fresh pairs same O′ fits =
     let started = queued-alike (λ r b. none-held partner from n pairs waits r) (evicted-is partner from n pairs waits before before′ l O Q same) in
     queued-alike (all-held partner from n pairs waits fresh)
-    (admitted-is partner from n pairs waits before′ O′ room fits (evicted partner from n l) started n (omega arith))
+    (admitted-is partner from n pairs waits before′ O′ room fits (evicted partner from waits n l) started n (omega arith))

@@ -62,19 +62,23 @@ without l o = remove l (slot (λ m. eqb m o) l)
 
 -- ---- n new records, from number `from` on: their older partners have other keys than before
 
-module _ (partner : ℕ → ℕ) (from : ℕ) where
-  -- the partners of the new records are taken out
+-- number o is older and waits, and so is in the queue
+unfoldable pub isOlder : ℕ → (ℕ → Bool) → ℕ → Bool
+isOlder from waits o = ltb o from && waits o
+
+module _ (partner : ℕ → ℕ) (from : ℕ) (waits : ℕ → Bool) where
+  -- the older partners of the new records are taken out
   unfoldable pub evicted : ℕ → List ℕ → List ℕ
   evicted zero l = l
-  evicted (suc n) l = without (evicted n l) (partner (from + n))
+  evicted (suc n) l = let o = partner (from + n) in cond (isOlder from waits o) (without (evicted n l) o) (evicted n l)
 
-  module _ (waits : ℕ → Bool) (before : ℕ → ℕ → Bool) (room : ℕ) where
-    -- one new record is put in, and its partner if it was taken out
+  module _ (before : ℕ → ℕ → Bool) (room : ℕ) where
+    -- one new record is put in, and its older partner again
     unfoldable pub admit : List ℕ → ℕ → List ℕ
     admit l r =
         let o = partner r in
         let m = put before room l r in
-        cond (ltb o from && waits o) (put before room m o) m
+        cond (isOlder from waits o) (put before room m o) m
 
     unfoldable pub admitted : ℕ → List ℕ → List ℕ
     admitted zero l = l

@@ -1,59 +1,20 @@
--- The invariant: the partners of the records below r are out.
-use mathlib.Core.Path.{_≡_, refl, ap}
-use Prim.Native.Nat.{_≤_, _-_}
-use native.Mathlib.Omega.{arith}
-use lib.ListN.{length, take}
-use Rattle.numbers.specs.declared.Coordinate.{Coordinate}
-use Rattle.events.specs.Event.{Event}
-use Rattle.events.specs.Pool.{pool, stored}
-use Rattle.events.specs.Store.{look}
-use Rattle.waiting.specs.Queue as Queue
-use Rattle.sweep.proofs.Queued.{evicted-none, evicted-next}
+-- By the two tests.
+use borrow.Author.Needs.{needs}
+use Rattle.sweep.proofs.Queued.{evict-young, evict-taken, evict-old}
 use Rattle.sweep.proofs.queue.evict.Statement.{statement}
 use Rattle.sweep.proofs.queue.evict.Tie as tie
 
-abbrev Inv-loop : tie.InvT-loop
-Inv-loop points marks from used queue₀ n last₀ r₀ queue last r =
-    (take last queue ≡ Queue.evicted (λ i. look stored (pool points marks) used i .partner) from (r - from) (take n queue₀))
-    × (last ≤ length queue)
-    × (length queue ≡ length queue₀)
-    × (from ≤ r)
-    × (r - from ≤ used - from)
-
-abbrev μ-loop : tie.MeasureT-loop
-μ-loop points marks from used queue₀ n last₀ r₀ queue last r = used - r
-
-loop-holds : tie.Need-loop-holds Inv-loop μ-loop
-loop-holds c = (evicted-none _ _ _, c .before .pre, refl, omega arith, omega arith)
-
-loop-again : tie.Need-loop-again Inv-loop μ-loop
-loop-again c =
-    let l = c .before .before .before .before .before .before .loop in
-    let out = c .before .before .take-out in (
-      evicted-next _ _ (l .inv .3) _ _ _ _ (l .inv .0) _ (ap (λ (e : Event Coordinate). e .partner) (c .before .before .before .before .read-used .ensures)) (out .ensures .0),
-      out .ensures .1,
-      omega arith,
-      omega arith,
-      omega arith,
-    )
-
-returns : tie.Need-returns Inv-loop μ-loop
+returns : tie.Need-returns
 returns c =
-    let l = c .before .loop in
-    let all : l .r - c .before .before .before .args .from ≡ c .before .before .before .args .used - c .before .before .before .args .from = omega arith in
-    (rw all at (l .inv .0), l .inv .1)
+    let t = c .before .before .before .before in
+    let out = c .before .before .take-out .ensures in
+    (evict-old _ _ _ _ (t .before .before .if1 .taken) (t .before .is-waiting .ensures) (t .if2 .taken) _ (out .0), out .1)
+
+returns-2 : tie.Need-returns-2
+returns-2 c = (evict-taken _ _ _ _ (c .before .before .if1 .taken) (c .before .is-waiting .ensures) (c .if2 .left), c .before .before .before .before .before .pre)
+
+returns-3 : tie.Need-returns-3
+returns-3 c = (evict-young _ _ _ _ (c .if1 .left), c .before .before .before .pre)
 
 pub evict-spec : {M : Type 1} → statement M
-evict-spec =
-    tie.close
-    (tie.spec
-    Inv-loop
-    μ-loop
-    loop-holds
-    (λ c κs. tt)
-    (λ c κs. c .before .before .before .loop .inv .1)
-    (λ c. omega arith)
-    (λ c. omega arith)
-    loop-again
-    (λ c. c .before .loop .inv .2)
-    returns)
+evict-spec = tie.close (tie.spec (λ c κs. tt) (λ c κs. search needs) (λ c. search needs) returns returns-2 returns-3)

@@ -6,11 +6,11 @@ use Rattle.sweep.proofs.queue.requeue.Statement.{statement}
 use Rattle.sweep.proofs.queue.requeue.Tie as tie
 
 admit-all-requires : tie.Need-admit-all-requires
-admit-all-requires c κs = (c .before .before .before .evict .ensures .1, omega arith)
+admit-all-requires c κs = (c .before .before .before .evict-all .ensures .1, omega arith)
 
 returns : tie.Need-returns
 returns c =
-    let out = c .before .before .before .before .before .before .evict .ensures in
+    let out = c .before .before .before .before .before .before .evict-all .ensures in
     let all = c .before .before .admit-all .ensures in
     (requeued-is _ _ _ _ _ _ _ _ _ _ (omega arith) (out .0) (all .0), all .1)
 
