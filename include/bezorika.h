@@ -113,7 +113,24 @@ uint64_t bezorika_connect(const double (*points)[2], size_t points_length,
    Returns 0: the text is the first *length bytes of out.
    Returns the number of a refusal: its place is in *place and out is as lent.
    10 and 1: *place is the line; 5, last of all: *place is how many bytes the
-   text takes, so a second call with as many succeeds. */
+   text takes, so a second call with as many succeeds.
+
+   One room and no strip, the corners by the bits of their numbers:
+
+       static const char sheet[] =
+           "operation difference\n"
+           "subject 3\n"
+           "0 0000000000000000 0000000000000000 4000000000000000 0000000000000000\n"
+           "0 4000000000000000 0000000000000000 0000000000000000 4000000000000000\n"
+           "0 0000000000000000 4000000000000000 0000000000000000 0000000000000000\n"
+           "clip 0\n";
+       uint8_t map[4096];
+       uint64_t length, place;
+       uint64_t number = bezorika_overlay((const uint8_t *)sheet, sizeof sheet - 1,
+                                          map, sizeof map, &length, &place);
+
+   Then number is 0, length 181, and map begins with "contours 1\n". With
+   180 bytes of room number is 5 and place 181. A program: examples/handset.c. */
 uint64_t bezorika_overlay(const uint8_t *bytes, size_t bytes_length,
                           uint8_t *out, size_t out_length,
                           uint64_t *length, uint64_t *place);

@@ -58,8 +58,25 @@ static void refused(const char *text, uint64_t number, uint64_t at)
     EXPECT(place == at && length == 77 && out[0] == 1 && out[3] == 4);
 }
 
+/* The header's own example. */
+static void example(void)
+{
+    static const char room[] = "operation difference\nsubject 3\n"
+                               "0 0000000000000000 0000000000000000 4000000000000000 0000000000000000\n"
+                               "0 4000000000000000 0000000000000000 0000000000000000 4000000000000000\n"
+                               "0 0000000000000000 4000000000000000 0000000000000000 0000000000000000\n"
+                               "clip 0\n";
+    uint64_t length = 0, place = 0;
+    EXPECT(bezorika_overlay((const uint8_t *)room, sizeof room - 1, map, 4096, &length, &place) == 0);
+    EXPECT(length == 181);
+    EXPECT(memcmp(map, "contours 1\n", 11) == 0);
+    EXPECT(bezorika_overlay((const uint8_t *)room, sizeof room - 1, map, 180, &length, &place) == 5);
+    EXPECT(place == 181);
+}
+
 int main(void)
 {
+    example();
     whole("crates/overlay/stdin", "crates/overlay/stdout");
     whole("examples/floor/floor.sheet", "examples/floor/floor.map");
     refused("", 10, 1);
