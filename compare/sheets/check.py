@@ -3,6 +3,7 @@
 The model reads the sheet, the stages of the archive sweep and connect its edges, the model writes the map; then bytes are
 compared. Run from the repository, after compare/build. Exit status 1 if any differ, or nothing was compared."""
 import itertools
+import platform
 import subprocess
 import sys
 from collections import Counter
@@ -14,7 +15,7 @@ from bridge import Bridge
 
 BRIDGE = ["tests/x86", "target/compare/bridge"]
 PROGRAM = ["tests/x86", "target/bin/overlay"]
-# Starting the program takes long where it is emulated; so many sheets, and so many that it does not read to the end.
+# Starting the program takes long where it is emulated: there so many sheets, and so many that it does not read to the end.
 THROUGH_PROGRAM = 200
 LONG = 20
 SHOWN = 5
@@ -87,6 +88,8 @@ def run_program(data):
 
 
 def for_program(count, seed):
+    if platform.machine() == "x86_64":
+        return range(count)
     numbers = list(range(0, count, max(count // THROUGH_PROGRAM, 1) | 1))
     is_long = lambda number: len(inputs.sheet(number, seed)[1]) > model.PROGRAM_READS
     return numbers + list(itertools.islice(filter(is_long, range(count)), LONG))
