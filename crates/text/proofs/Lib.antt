@@ -6,4 +6,6 @@ pub mod Reading
 pub mod Patterns
 pub mod Back
 pub mod Forth
+pub mod Within
+pub mod Table
 pub mod Leading

@@ -2,8 +2,9 @@
 use mathlib.Core.Path.{_≡_, _∙_}
 use mathlib.Core.Bool.{cond}
 use mathlib.Core.List.{List}
-use Prim.Native.Nat.{ℕ, suc, _+_, _-_, _*_, _^_, _≤_, _<_}
-use native.Mathlib.Nat.{add-zero, sub-zero, pow-zero, add-mul, mul-comm, pow-succ', mul-le-mul-right, pow-le-pow-right}
+use Prim.Native.Nat.{ℕ, suc, _+_, _-_, _*_, _%_, _^_, _≤_, _<_}
+use native.Mathlib.Nat.{add-zero, sub-zero, pow-zero, add-mul, mod-eq-of-lt, mul-comm, pow-succ', mul-le-mul-right, pow-le-pow-right}
+use native.Mathlib.Decide.{decLt}
 use native.Mathlib.Numerals.{add-one}
 use native.Mathlib.Omega.{arith}
 use borrow.Author.Tests.{lt-ltb, le-ltb}
@@ -37,12 +38,16 @@ module _ (b : ℕ) where
   above-f k = rw (le-ltb b 48 (omega arith), le-ltb b 58 (omega arith), le-ltb b 97 (omega arith), le-ltb b 103 k)
 
 -- what is left to read after i of count digits
-unfoldable pub left : List ℕ → ℕ → ℕ → ℕ → ℕ → ℕ → Read
+unfoldable left : List ℕ → ℕ → ℕ → ℕ → ℕ → ℕ → Read
 left s at base count i v = value base v (bytes s (at + i) (count - i))
 
-pub read-begun : (s : List ℕ) (at base count : ℕ) → left s at base count 0 0 ≡ value base 0 (bytes s at count)
-unfolding left
-read-begun s at base count = rw (add-zero, sub-zero)
+-- what is left to read where `top` is the largest of the i digits read
+pub leftBy : List ℕ → ℕ → ℕ → ℕ → ℕ → ℕ → ℕ → Read
+leftBy s at base count i top v = cond (ltb top base) (left s at base count i v) Nothing
+
+pub read-begun : (s : List ℕ) (at base count : ℕ) → 0 < base → leftBy s at base count 0 0 0 ≡ value base 0 (bytes s at count)
+unfolding leftBy left
+read-begun s at base count h = rw (lt-ltb 0 base h, add-zero, sub-zero)
 
 -- one digit d read
 module _ (s : List ℕ) (at base count i v d : ℕ) (h : i < count) (e : d ≡ digitOf (getD s (at + i) 0)) where
@@ -52,15 +57,29 @@ module _ (s : List ℕ) (at base count i v d : ℕ) (h : i < count) (e : d ≡ d
       let q : count - i ≡ suc (count - (i + 1)) = omega arith in
       let p : at + (i + 1) ≡ at + i + 1 = omega arith in rw (q, p, e)
 
-  pub read-on : d < base → left s at base count i v ≡ left s at base count (i + 1) (v * base + d)
-  read-on l = rw (one-read, lt-ltb d base l)
+  pub read-on : (top : ℕ) → leftBy s at base count i top v ≡ leftBy s at base count (i + 1) (cond (ltb top d) d top) (v * base + d % base)
+  unfolding leftBy
+  read-on top = go (decLt top base) (decLt d base) (decLt top d)
+    where
+      go : Dec (top < base) → Dec (d < base) → Dec (top < d) → cond (ltb top base) (left s at base count i v) Nothing ≡ cond (ltb (cond (ltb top d) d top) base) (left s at base count (i + 1) (v * base + d % base)) Nothing
+      go (yes t) (yes l) (yes m) = rw (lt-ltb top d m, lt-ltb top base t, lt-ltb d base l, one-read, lt-ltb d base l, mod-eq-of-lt l)
+      go (yes t) (yes l) (no m) = rw (le-ltb top d (omega arith), lt-ltb top base t, one-read, lt-ltb d base l, mod-eq-of-lt l)
+      go (yes t) (no l) m = rw (lt-ltb top d (omega arith), lt-ltb top base t, one-read, le-ltb d base (omega arith))
+      go (no t) l (yes m) = rw (lt-ltb top d m, le-ltb top base (omega arith), le-ltb d base (omega arith))
+      go (no t) l (no m) = rw (le-ltb top d (omega arith), le-ltb top base (omega arith))
 
-  pub read-none : base ≤ d → left s at base count i v ≡ Nothing
-  read-none l = rw (one-read, le-ltb d base l)
+module _ (s : List ℕ) (at base count i top v : ℕ) (h : count ≤ i) where
+  all-read : left s at base count i v ≡ Value v
+  unfolding left value bytes
+  all-read = let q : count - i ≡ 0 = omega arith in rw q
 
-pub read-end : (s : List ℕ) (at base count i v : ℕ) → count ≤ i → left s at base count i v ≡ Value v
-unfolding left value bytes
-read-end s at base count i v h = let q : count - i ≡ 0 = omega arith in rw q
+  pub read-end : top < base → leftBy s at base count i top v ≡ Value v
+  unfolding leftBy
+  read-end l = rw (lt-ltb top base l, all-read)
+
+  pub read-none : base ≤ top → leftBy s at base count i top v ≡ Nothing
+  unfolding leftBy
+  read-none l = rw (le-ltb top base l)
 
 -- a digit more keeps the number below one power more, which is a u64 where the whole is
 pub grow : (base v d i : ℕ) → v < base ^ i → d < base → v * base + d < base ^ (i + 1)

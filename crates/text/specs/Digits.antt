@@ -1,8 +1,10 @@
 -- Digits: a number as bytes in a base from 2 to 16, '0' to '9' and then 'a' to 'f', the highest first.
+use mathlib.Core.Path.{_≡_}
 use mathlib.Core.Bool.{cond}
 use mathlib.Core.List.{List, [], _∷_, _++_}
-use Prim.Native.Nat.{ℕ, zero, suc, _+_, _-_, _*_, _/_, _%_}
+use Prim.Native.Nat.{ℕ, zero, suc, _+_, _-_, _*_, _/_, _%_, _<_}
 use lib.Dec.{ltb}
+use lib.ListN.{getD}
 use Rattle.text.specs.Words.{bytes}
 use Rattle.text.specs.declared.digits.Read.{Read}
 use Rattle.text.specs.declared.digits.Read.the-variants.{Value, Nothing}
@@ -32,6 +34,10 @@ decimal w = digits 10 (places 10 20 w) w
 -- the digit that a byte stands for; 16, a digit in no base, where it is none
 unfoldable pub digitOf : ℕ → ℕ
 digitOf b = cond (ltb b 48) 16 (cond (ltb b 58) (b - 48) (cond (ltb b 97) 16 (cond (ltb b 103) (b - 87) 16)))
+
+-- a table that has at each byte the digit that it stands for
+unfoldable pub isTable : List ℕ → Type 0
+isTable t = (b : ℕ) → b < 256 → getD t b 0 ≡ digitOf b
 
 -- the number that bytes stand for after v: nothing where one of them is no digit of the base
 unfoldable pub value : ℕ → ℕ → List ℕ → Read

@@ -1,11 +1,13 @@
 // Numbers as digits at a place: 16 lowercase hex digits of a 64-bit word, or decimal without leading zeros.
 ghost use mathlib.Core.Path.{_≡_};
-ghost use Prim.Native.Nat.{_<_, _≤_, _^_};
-ghost use lib.ListN.{length};
+ghost use Prim.Native.Nat.{_<_, _≤_, _^_, _+_, _-_};
+ghost use mathlib.Core.Bool.{Bool, cond};
+ghost use lib.Dec.{ltb};
+ghost use lib.ListN.{length, getD};
 ghost use lib.Seq.{sets};
-ghost use Rattle.text.specs.Digits.{digit, digits, hex, places, decimal, digitOf, value, hexAt, decimalAt};
+ghost use Rattle.text.specs.Digits.{digit, digits, hex, places, decimal, isTable, value, hexAt, decimalAt};
 ghost use Rattle.text.specs.Words.{bytes};
-use crate::words::byte_at;
+use crate::words::is_below;
 use crate::words::put_byte;
 
 // The hex digits of a 64-bit word.
@@ -77,41 +79,69 @@ pub fn put_decimal(buf: &mut [u8], at: usize, w: u64) -> usize
     n
 }
 
-// The digit that a byte stands for; 16 where it is none.
-fn digit_of(b: u8) -> u64
-    ensures { λ r. ⌜ r ≡ digitOf b ⌝ }
+// The digit that each byte stands for; 16 where it is none.
+fn digit_table() -> [u8; 256]
+    ensures { λ r. ⌜ isTable r ⌝ }
 {
-    if b < b'0' {
-        return 16;
+    let mut table = [16; 256];
+    let mut d: u8 = 0;
+    while d < 16 {
+        table[digit_byte(d as u64) as usize] = d;
+        d += 1;
     }
-    if b <= b'9' {
-        return (b - b'0') as u64;
-    }
-    if b < b'a' {
-        return 16;
-    }
-    if b <= b'f' {
-        return (b - (b'a' - 10)) as u64;
-    }
-    16
+    table
 }
 
-// The number that `count` digits from `at` on stand for.
+// The larger of two digits.
+fn larger(a: u8, b: u8) -> u8
+    ensures { λ r. ⌜ r ≡ cond (ltb a b) b a ⌝ }
+{
+    if a < b {
+        return b;
+    }
+    a
+}
+
+// A byte that is there.
+fn byte(s: &[u8], i: usize) -> u8
+    requires { ⌜ i < length (now s) ⌝ }
+    ensures { λ r. ⌜ r ≡ getD (now (s .entry)) i 0 ⌝ }
+{
+    s[i]
+}
+
+// Whether there are no digits or all of them end within the array.
+fn is_within(at: usize, count: usize, len: usize) -> bool
+    ensures { λ r. ⌜ r ≡ cond (ltb 0 count) (ltb (at + (count - 1)) len) Bool.true ⌝ }
+{
+    if count > 0 {
+        return is_below(at, count - 1, len);
+    }
+    true
+}
+
+// The number that `count` digits from `at` on stand for. Whether all are digits is asked at the end: a branch for each costs more than reading it.
 fn read_digits(s: &[u8], at: usize, base: u64, count: usize) -> Read
-    requires { ⌜ (0 < base) × (base ^ count ≤ 18446744073709551616) ⌝ }
+    requires { ⌜ (1 < base) × (base ≤ 16) × (base ^ count ≤ 18446744073709551616) ⌝ }
     ensures { λ r. ⌜ r ≡ value base 0 (bytes (now (s .entry)) at count) ⌝ }
 {
+    if !is_within(at, count, s.len()) {
+        return Read::Nothing;
+    }
+    let table = digit_table();
     let mut v: u64 = 0;
+    let mut top: u8 = 0;
     let mut i = 0;
     while i < count {
-        let d = digit_of(byte_at(s, at, i));
-        if d >= base {
-            return Read::Nothing;
-        }
-        v = v * base + d;
+        let d = table[byte(s, at + i) as usize];
+        top = larger(top, d);
+        v = v * base + d as u64 % base;
         i += 1;
     }
-    Read::Value(v)
+    if (top as u64) < base {
+        return Read::Value(v);
+    }
+    Read::Nothing
 }
 
 // The word whose 16 hex digits stand at `at`.

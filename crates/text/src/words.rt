@@ -8,7 +8,7 @@ ghost use lib.Seq.{sets};
 ghost use Rattle.text.specs.Words.{begins};
 
 // Whether the place k after `at` is below `len`, also where their sum is no usize.
-fn is_below(at: usize, k: usize, len: usize) -> bool
+pub fn is_below(at: usize, k: usize, len: usize) -> bool
     ensures { λ r. ⌜ r ≡ ltb (at + k) len ⌝ }
 {
     if at < len {

@@ -18,7 +18,7 @@ unfolding decimalAt
 returns c = rw (lt-ltb _ _ (c .if1 .taken))
 
 read-digits-requires : tie.Need-read-digits-requires
-read-digits-requires c κs = (omega arith, small _ (c .if1 .left))
+read-digits-requires c κs = (omega arith, omega arith, small _ (c .if1 .left))
 
 returns-2 : tie.Need-returns-2
 unfolding decimalAt
