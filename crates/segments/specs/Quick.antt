@@ -1,9 +1,14 @@
--- The tests in plain comparisons; where they pass, every number that they look at is finite. Cited by private functions alone: a reader of the
--- promise need not read it.
+-- The tests in plain comparisons; where they pass, every number that they look at is finite. A reader of segment order's promise need not read
+-- them: what the boxes tell agrees with it.
+use mathlib.Core.Path.{_≡_}
 use mathlib.Core.Bool.{Bool, false, cond}
 use lib.Ieee.{Float, binary64, neg, lt, le, ofBits}
 use Rattle.numbers.specs.declared.Coordinate.{Coordinate}
 use Rattle.events.specs.Event.{Key}
+use Rattle.segments.specs.declared.Ordering.{Ordering}
+use Rattle.segments.specs.declared.Ordering.the-variants as order
+use Rattle.segments.specs.declared.ByBoxes.{ByBoxes}
+use Rattle.segments.specs.declared.ByBoxes.the-variants as boxes
 
 -- 2^1023
 abbrev pub huge : Float
@@ -27,3 +32,16 @@ under low high =
     cond (belowBoth (low .point .y) (high .point .y) (high .mate .y))
     (cond (belowBoth (low .mate .y) (high .point .y) (high .mate .y)) (cond (lt (high .point .y) huge) (lt (high .mate .y) huge) false) false)
     false
+
+-- what the boxes tell, where the second segment is the older one: at one x the lower one is
+unfoldable pub byBoxes : Key Coordinate → Key Coordinate → ByBoxes
+byBoxes new old =
+    cond (beside old new)
+    (cond (under old new) boxes.Greater (cond (lt (old .point .x) (new .point .x)) (cond (under new old) boxes.Less boxes.Open) boxes.Open))
+    boxes.Open
+
+-- .. is so
+abbrev pub Agrees : ByBoxes → Ordering → Type 0
+Agrees boxes.Less o = o ≡ order.Less
+Agrees boxes.Greater o = o ≡ order.Greater
+Agrees boxes.Open o = Unit {0}

@@ -10,6 +10,7 @@ ghost use Rattle.order.specs.Order.{isZero};
 ghost use Rattle.segments.specs.Segments as Segments;
 ghost use Rattle.segments.specs.Segments.{isPositive, lessIf, lessIfInversed, alongside, byCrossing, oldBelow};
 ghost use Rattle.segments.specs.OnPool as OnPool;
+ghost use Rattle.segments.specs.Quick.{byBoxes, Agrees};
 use crossing::LineIntersection;
 use crossing::intersection;
 use events::points::same_point;
@@ -133,25 +134,46 @@ fn is_below(old: Key, new: Key) -> bool
     is_below_apart(old, new, sa_l, sa_r)
 }
 
-// Of two left records that are not one: the one that comes first in event order is the older. Where the second is, and the boxes lie apart, they decide.
-pub fn compare_segments(a: Key, b: Key) -> Ordering
-    ensures { λ r. ⌜ r ≡ Segments.compareSegments binary64 plain (shownKey a) (shownKey b) ⌝ }
+// What the boxes of two segments are certain of.
+pub enum ByBoxes {
+    Less,
+    Greater,
+    Open,
+}
+
+// Where b is the older one and the boxes lie apart in y, they tell how a compares to it.
+pub fn by_boxes(a: Key, b: Key) -> ByBoxes
+    ensures { λ r. ⌜ r ≡ byBoxes (shownKey a) (shownKey b) ⌝ }
+    ensures { λ r. ⌜ Agrees r (Segments.compareSegments binary64 plain (shownKey a) (shownKey b)) ⌝ }
 {
     if is_beside(b, a) {
         if is_under(b, a) {
-            return Ordering::Greater;
+            return ByBoxes::Greater;
         }
         // at one x the lower one is the older
         if b.point.x < a.point.x {
             if is_under(a, b) {
-                return Ordering::Less;
+                return ByBoxes::Less;
             }
         }
     }
-    if before(a, b) {
-        return less_if(is_below(a, b));
+    ByBoxes::Open
+}
+
+// Of two left records that are not one: the one that comes first in event order is the older.
+pub fn compare_segments(a: Key, b: Key) -> Ordering
+    ensures { λ r. ⌜ r ≡ Segments.compareSegments binary64 plain (shownKey a) (shownKey b) ⌝ }
+{
+    match by_boxes(a, b) {
+        ByBoxes::Less => Ordering::Less,
+        ByBoxes::Greater => Ordering::Greater,
+        ByBoxes::Open => {
+            if before(a, b) {
+                return less_if(is_below(a, b));
+            }
+            less_if_inversed(is_below(b, a))
+        }
     }
-    less_if_inversed(is_below(b, a))
 }
 
 // The same of two records of a pool; a record is equal to itself.

@@ -11,7 +11,9 @@ ghost use Rattle.status.specs.Status.{slot};
 ghost use Rattle.sweep_events.specs.Event.{isLess, isBelow};
 use order::Key;
 use order::key_used;
+use segments::ByBoxes;
 use segments::Ordering;
+use segments::by_boxes;
 use segments::compare_segments;
 use status::count;
 
@@ -32,7 +34,12 @@ fn is_below(points: &[[f64; 2]], marks: &[[u32; 12]], used: u32, e: u32, key: Ke
     if e == x {
         return false;
     }
-    is_less(compare_segments(key, key_used(points, marks, used, x)))
+    // most members are told by their boxes, before their keys are read whole
+    match by_boxes(key, key_used(points, marks, used, x)) {
+        ByBoxes::Less => true,
+        ByBoxes::Greater => false,
+        ByBoxes::Open => is_less(compare_segments(key, key_used(points, marks, used, x))),
+    }
 }
 
 // The place in the status, which may be the one behind its last.
