@@ -1,16 +1,25 @@
--- By the lower number's side.
+-- By x where it differs, else by the lower number's side.
+use mathlib.Core.Path.{sym, _∙_}
 use borrow.Author.Tests.{lt-ltb, le-ltb}
 use Rattle.waiting.specs.Queue as Queue
+use Rattle.waiting.proofs.Left.{left-leads, left-led}
 use Rattle.waiting.proofs.leads.Statement.{statement}
 use Rattle.waiting.proofs.leads.Tie as tie
 
 returns : tie.Need-returns
-unfolding Queue.leads
-returns c = rw (lt-ltb _ _ (c .before .if1 .taken), c .is-before .ensures)
+returns c = sym (left-leads _ _ _ _ (sym (c .before .is-left-of .ensures) ∙ c .if1 .taken))
 
 returns-2 : tie.Need-returns-2
+returns-2 c = sym (left-led _ _ _ _ (sym (c .before .is-left-of2 .ensures) ∙ c .if2 .taken))
+
+returns-3 : tie.Need-returns-3
 unfolding Queue.leads
-returns-2 c = rw (le-ltb _ _ (c .before .if1 .left), c .is-before2 .ensures)
+returns-3 c = rw (lt-ltb _ _ (c .before .if3 .taken), c .is-before .ensures)
+
+returns-4 : tie.Need-returns-4
+unfolding Queue.leads
+returns-4 c = rw (le-ltb _ _ (c .before .if3 .left), c .is-before2 .ensures)
 
 pub leads-spec : {M : Type 1} → statement M
-leads-spec = tie.close (tie.spec (λ c κs. tt) returns (λ c κs. tt) returns-2)
+leads-spec =
+    tie.close (tie.spec (λ c κs. tt) returns (λ c κs. tt) returns-2 (λ c κs. tt) returns-3 (λ c κs. tt) returns-4)
