@@ -15,6 +15,7 @@ use Rattle.contours.specs.Table.{place}
 use Rattle.contours.specs.Table as T
 use Rattle.contours.specs.Contours.{Contour, Answer, done, halted}
 use Rattle.contours.specs.Connect.{Finished, finished, outcomeOf, traced}
+use Rattle.contours.proofs.Turns.{Ends, by-nine}
 use Rattle.positions.specs.Positions.{orderedIn}
 use Rattle.rows.specs.Rows.{Rows, void}
 use Rattle.tabulation.specs.Tabulation.{tableIn}
@@ -28,7 +29,6 @@ use Rattle.connection.specs.declared.Outcome.{Outcome}
 use Rattle.connection.specs.declared.Outcome.the-variants.{Done, Refused}
 use Rattle.connection.specs.Connection.{Lent, lent, left, told, written, after}
 use Rattle.connection.specs.Steps.{recordAt, outcomeIn, answerIn, laidDown, connectAccepted}
-use Rattle.connection.proofs.Stopped.{ByNine, by-nine}
 
 -- ---- the contracts of the steps
 
@@ -64,11 +64,11 @@ module _ (p : Pool) (list q : List ℕ) (l : Lent) (h : size p ≤ length q) (e 
   pool-is : (ms : List ℕ) (cs : List Contour) → settledBy q ms p ≡ finished binary64 stored p list ms cs .pool
   pool-is ms cs = sym (finished-pool p list q ms cs h e)
 
-  answer-is : (a : Answer) → ByNine a → laidDown (orderedIn p list) q p (sheetOf a) ≡ after (outcomeOf binary64 stored p list a) p l
+  answer-is : (a : Answer) → Ends (length (tableIn p list)) (λ i ms cs. Unit {0}) a → laidDown (orderedIn p list) q p (sheetOf a) ≡ after (outcomeOf binary64 stored p list a) p l
   unfolding answered Tr.written laidDown answerIn outcomeIn recordAt orderedIn tableIn after outcomeOf told written finished stored void
   answer-is (done ms cs) b = ap (λ (x : Pool). left (told (given ms cs .outlines) Done) x (written (given ms cs .outlines) l)) (pool-is ms cs)
   answer-is (halted number i ms cs) b =
-      ap (λ (x : Outcome). left (told (given ms cs .outlines) x) (settledBy q ms p) (written (given ms cs .outlines) l)) (stop-is (orderedIn p list) number i b)
+      ap (λ (x : Outcome). left (told (given ms cs .outlines) x) (settledBy q ms p) (written (given ms cs .outlines) l)) (stop-is (orderedIn p list) number i (b .0))
       ∙ ap (λ (x : Pool). left (told (given ms cs .outlines) (refusedAt (orderedIn p list) number i)) x (written (given ms cs .outlines) l)) (pool-is ms cs)
 
   pub traced-is : laidDown (orderedIn p list) q p (tracedAll (length (tableIn p list)) (T.rowAt void (tableIn p list)) (l .corners) (l .contours) (l .holes)) ≡ connectAccepted p list l

@@ -35,7 +35,7 @@ contoursOf (halted number i ms cs) = cs
 
 held : (n : ℕ) (I : ℕ → List ℕ → List Contour → Type 0) (t : Answer) → Ends n I t → (i : ℕ) × (ms : List ℕ) × I i ms (contoursOf t)
 held n I (done ms cs) h = (n, ms, h)
-held n I (halted number i ms cs) h = (i, ms, h .1)
+held n I (halted number i ms cs) h = (i, ms, h .2)
 
 record Shown {P S : Type 0} (C : Coordinates P) (K : Store P S) (s : S) (points marks : ℕ) (list : List ℕ) (room : Room) (f : Finished P S) : Type 0 where
   ok : Accepted C (K .rowAt s) (K .size s) list

@@ -14,10 +14,10 @@ use Rattle.contours.specs.Walk.{marks}
 use Rattle.contours.specs.Contours.{Contour, contour, Answer, done, halted, Place, refuse, placed, context, turn, make, trailAt, turns, trace}
 use Rattle.contours.proofs.Marks.{open-true}
 
--- an invariant of position, marks and contours, where the answer ends
+-- an invariant of position, marks and contours, where the answer ends; it is stopped by refusal 9 and by no other, at a position of the table
 abbrev pub Ends : ℕ → (ℕ → List ℕ → List Contour → Type 0) → Answer → Type 0
 Ends n I (done ms cs) = I n ms cs
-Ends n I (halted number i ms cs) = (i < n) × I i ms cs
+Ends n I (halted number i ms cs) = (number ≡ 9) × (i < n) × I i ms cs
 
 module _ {P : Type 0} (same : P → P → Bool) (n : ℕ) (row : ℕ → Row P) where
   -- the marks and the contours after one that starts at i
@@ -39,7 +39,7 @@ module _ {P : Type 0} (same : P → P → Bool) (n : ℕ) (row : ℕ → Row P) 
         After = (ms : List ℕ) (cs : List Contour) → I (suc i) ms cs → Ends n I (turns same n row k (i + 1) ms cs)
 
         made : (w : Place) → getD ms i 1 ≡ 0 → After → Ends n I (make w (halted 9 i ms cs) (λ p d. turns same n row k (i + 1) (marked i cs ms) (more i cs ms p d)))
-        made refuse o r = (omega arith, h)
+        made refuse o r = (refl, omega arith, h)
         made (placed p d) o r = r (marked i cs ms) (more i cs ms p d) (start i ms cs p d (omega arith) h o)
 
         go : (b : Bool) → isOpen (getD ms i 1) ≡ b → After
@@ -52,8 +52,11 @@ module _ {P : Type 0} (same : P → P → Bool) (n : ℕ) (row : ℕ → Row P) 
     unfolding trace
     trace-end h = turns-end n 0 (replicate n 0) [] (omega arith) h
 
-  -- refusal 9 is told at a position of the table
+  -- with nothing asked of what was made
+  pub by-nine : Ends n (λ i ms cs. Unit {0}) (trace same n row)
+  by-nine = trace-end (λ i ms cs. Unit {0}) (λ i ms cs l h o. tt) (λ i ms cs p d l h o. tt) tt
+
   pub halted-in : (number at : ℕ) (ms : List ℕ) (cs : List Contour) → trace same n row ≡ halted number at ms cs → at < n
   halted-in number at ms cs e =
-      let h : Ends n (λ i ms cs. Unit {0}) (halted number at ms cs) = rw e at (trace-end (λ i ms cs. Unit {0}) (λ i ms cs l h o. tt) (λ i ms cs p d l h o. tt) tt) in
-      h .0
+      let h : Ends n (λ i ms cs. Unit {0}) (halted number at ms cs) = rw e at by-nine in
+      h .1

@@ -279,7 +279,7 @@ module _ {P : Type 0} (same : P → P → Bool) (n : ℕ) (row : ℕ → Row P) 
     where
       go : (t : Answer) → Ends n Once t → Ends n (λ i ms cs. All (λ k. Begins n row (k .trail)) cs) t
       go (done ms cs) h = h .begun q
-      go (halted k i ms cs) h = (h .0, h .1 .begun q)
+      go (halted k i ms cs) h = (h .0, h .1, h .2 .begun q)
 
   -- ---- every contour closes
 

@@ -80,7 +80,7 @@ pub close-done : (s : List ℕ) (n at i : ℕ) → at < n → n ≤ i + 1 → i 
 unfolding left removeAt
 close-done s n at i h k l =
     let e : n ≡ suc i = omega arith in
-    rw (e, take-take at (suc i) s (omega arith), add-one, sub-one)
+    rw (e, take-take at (suc i) s (omega arith), sub-one)
 
 -- the same, of the list that a loop holds
 pub up-step : (t s : List ℕ) (n i : ℕ) → t ≡ shifted s n i → 0 < i → i ≤ n → n < length s → set t i (getD t (i - 1) 0) ≡ shifted s n (i - 1)

@@ -1,2 +1,2 @@
--- A list in a lent slice: insertion and removal.
+-- A list, and a list in a lent slice: places, insertion and removal.
 pub mod Lists

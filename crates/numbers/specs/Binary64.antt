@@ -21,6 +21,10 @@ unfoldable pub firstNotFinite : List Float → ℕ
 firstNotFinite [] = 0
 firstNotFinite (x ∷ xs) = cond (notFinite x) 0 (suc (firstNotFinite xs))
 
+-- 2^1023, the largest power of two that is finite: what lies between its negative and it is finite. No promise names it; tests in plain floats do.
+abbrev pub huge : Float
+huge = ofBits binary64 0x7fe0_0000_0000_0000
+
 -- 2^100, the largest coordinate that is loaded or stands in a pool
 abbrev pub limit : Float
 limit = ofBits binary64 0x4630_0000_0000_0000

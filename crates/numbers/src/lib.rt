@@ -3,6 +3,9 @@ ghost use mathlib.Core.Path.{_≡_};
 ghost use Rattle.numbers.specs.Binary64.{notFinite, firstNotFinite, unfit, minimum, maximum};
 ghost use Rattle.numbers.specs.Next.{nextPattern, nextUp};
 
+// 2^1023: a number that lies between its negative and it is finite.
+pub const HUGE: f64 = 8.98846567431158e307;
+
 // The pattern of minus zero.
 const MINUS_ZERO: u64 = 0x8000_0000_0000_0000;
 

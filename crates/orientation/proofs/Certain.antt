@@ -12,7 +12,7 @@ use lib.IntN.{ℤ, _-ℤ_, _*ℤ_}
 use lib.Ieee.{Float, nan, inf, fin, binary64, odd, sub, mul, neg, lt, eq, fits, ofBits, ofFields}
 use lib.Ieee.Fits.{sub-fits}
 use Rattle.numbers.specs.Binary64 as Binary64
-use Rattle.numbers.specs.Binary64.{notFinite}
+use Rattle.numbers.specs.Binary64.{notFinite, huge}
 use Rattle.numbers.specs.Exact.{size, negative, whole}
 use Rattle.numbers.proofs.Units.{Finite}
 use Rattle.numbers.proofs.Place.{place, shift, place-is, lt-place, eq-place}
@@ -21,7 +21,7 @@ use Rattle.numbers.proofs.Rounding.{near-none}
 use Rattle.numbers.proofs.Subtraction.{sub-near}
 use Rattle.orientation.specs.declared.Sign.the-variants.{Negative, Zero, Positive}
 use Rattle.orientation.specs.Orientation.{signOf}
-use Rattle.orientation.specs.Quick.{margin, huge, tiny, certainlyAbove, exactlyZero}
+use Rattle.orientation.specs.Quick.{margin, tiny, certainlyAbove, exactlyZero}
 use Rattle.orientation.proofs.Differences as Differences
 use Rattle.orientation.proofs.Differences.{Diff, moved, same, minus, times, parts, whole-is}
 use Rattle.orientation.proofs.Signs as Signs

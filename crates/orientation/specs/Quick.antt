@@ -1,16 +1,12 @@
 -- The tests in plain floats, each operation rounded once. Cited by private functions alone: a reader of the promise need not read it.
 use mathlib.Core.Bool.{Bool, true, false, cond}
 use lib.Ieee.{Float, binary64, mul, neg, lt, eq, ofBits}
-use Rattle.numbers.specs.Binary64.{zero}
+use Rattle.numbers.specs.Binary64.{zero, huge}
 use Rattle.numbers.specs.declared.Coordinate.{Coordinate}
 
 -- 1 + 2^-49
 abbrev pub margin : Float
 margin = ofBits binary64 0x3ff0_0000_0000_0008
-
--- 2^1023
-abbrev pub huge : Float
-huge = ofBits binary64 0x7fe0_0000_0000_0000
 
 -- 2^-1021
 abbrev pub tiny : Float

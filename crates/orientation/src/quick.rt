@@ -1,18 +1,17 @@
 // The sign by plain floats, where they are certain of it. A test that passes tells of the exact numbers; one that fails tells nothing.
 use numbers::Coordinate;
+use numbers::HUGE;
 ghost use mathlib.Core.Path.{_≡_};
 ghost use Rattle.orientation.specs.Quick.{certainlyAbove, exactlyZero, samePoint};
 
 // 1 + 2^-49: the rounding of two differences, of their product and of this margin itself comes to less.
 const MARGIN: f64 = 1.0000000000000018;
 
-// 2^1023: a product below it in size is no infinity, so every number that went into it was finite.
-const HUGE: f64 = 8.98846567431158e307;
-
 // 2^-1021: a product above it in size has all its digits; below, underflow may have taken them.
 const TINY: f64 = 4.450147717014403e-308;
 
 // x and y are each the rounded product of two rounded differences: the exact product for x is above that for y.
+// Below HUGE in size a product is no infinity, so every number that went into it was finite.
 pub fn certainly_above(x: f64, y: f64) -> bool
     ensures { λ r. ⌜ r ≡ certainlyAbove x y ⌝ }
 {

@@ -1,13 +1,13 @@
 -- Loaded in another order, with no tie at any taking, the sweep takes the renamed events in the same order: the same text is told, or the same number.
 use mathlib.Core.Path.{_≡_, refl, sym, ap, ap₂, _∙_, subst}
 use mathlib.Core.Bool.{false}
-use mathlib.Core.List.{List, _++_, map}
+use mathlib.Core.List.{List, map}
 use Prim.Native.Nat.{ℕ, _+_, _*_, _≤_}
-use native.Mathlib.Nat.{zero-add}
 use native.Mathlib.Omega.{arith}
 use lib.Ieee.{Float}
-use lib.ListN.{length, take, drop, length-map}
-use lib.Seq.{sets, sets-eq, length-sets, take-append-seam}
+use lib.ListN.{length, take, length-map}
+use lib.Seq.{length-sets}
+use Rattle.lists.proofs.Fronts.{first-are}
 use Rattle.refusals.specs.declared.Refusal.{Refusal}
 use Rattle.events.specs.Binary64.{binary64, plain}
 use Rattle.events.specs.Pool.{Pool, pool, size, stored}
@@ -34,11 +34,6 @@ use Rattle.overlay_work.proofs.Handing.{taken-within, in-use}
 use Rattle.overlay_order.specs.Lines.{SameWork, same-text, same-number}
 use Rattle.overlay_order.proofs.InUse.{renumbered}
 use Rattle.overlay_order.proofs.Renumbered.{connected-alike}
-
-first-are : {A : Type 0} (l m : List A) (n : ℕ) → n ≡ length m → n ≤ length l → take n (sets l 0 m) ≡ m
-first-are l m n e h =
-    let list : sets l 0 m ≡ m ++ drop (length m) l = sets-eq m l 0 (omega (arith, e, h)) ∙ rw zero-add in
-    rw (e, list) (take-append-seam m (drop (length m) l))
 
 -- ---- one sweep
 

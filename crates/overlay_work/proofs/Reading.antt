@@ -2,11 +2,11 @@
 use mathlib.Core.Path.{_≡_, refl, sym, ap, _∙_}
 use mathlib.Core.List.{List, _++_, map}
 use Prim.Native.Nat.{ℕ, _+_, _≤_}
-use native.Mathlib.Nat.{zero-add}
 use native.Mathlib.Omega.{arith}
 use lib.Ieee.{Float}
-use lib.ListN.{length, take, drop, length-append, length-map}
-use lib.Seq.{sets, sets-eq, length-sets, take-append-seam}
+use lib.ListN.{length, take, length-append, length-map}
+use lib.Seq.{sets, length-sets}
+use Rattle.lists.proofs.Fronts.{first-are}
 use Rattle.refusals.specs.declared.Refusal.{Refusal}
 use Rattle.class.specs.declared.Operation.{Operation}
 use Rattle.sheet.specs.declared.Told.{Told}
@@ -21,11 +21,6 @@ use Rattle.overlay_work.specs.declared.Overlaid.the-variants.{Refused}
 use Rattle.overlay_work.specs.Overlay.{Work, Stopped, After, left, put, work, overlay, noEnds, noLabels, overlayEdges, overlaySheet, afterReading}
 
 -- ---- the arrays
-
-first-are : {A : Type 0} (lent l : List A) (n : ℕ) → n ≡ length l → n ≤ length lent → take n (sets lent 0 l) ≡ l
-first-are lent l n e h =
-    let list : sets lent 0 l ≡ l ++ drop (length l) lent = sets-eq l lent 0 (omega (arith, e, h)) ∙ rw zero-add in
-    rw (e, list) (take-append-seam l (drop (length l) lent))
 
 ends-room : length noEnds ≡ mostEdges
 unfolding noEnds

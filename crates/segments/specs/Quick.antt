@@ -2,17 +2,14 @@
 -- them: what the boxes tell agrees with it.
 use mathlib.Core.Path.{_≡_}
 use mathlib.Core.Bool.{Bool, false, cond}
-use lib.Ieee.{Float, binary64, neg, lt, le, ofBits}
+use lib.Ieee.{Float, neg, lt, le}
+use Rattle.numbers.specs.Binary64.{huge}
 use Rattle.numbers.specs.declared.Coordinate.{Coordinate}
 use Rattle.events.specs.Event.{Key}
 use Rattle.segments.specs.declared.Ordering.{Ordering}
 use Rattle.segments.specs.declared.Ordering.the-variants as order
 use Rattle.segments.specs.declared.ByBoxes.{ByBoxes}
 use Rattle.segments.specs.declared.ByBoxes.the-variants as boxes
-
--- 2^1023
-abbrev pub huge : Float
-huge = ofBits binary64 0x7fe0_0000_0000_0000
 
 -- in x the newer one starts between the older one's ends or at one of them, and the older one is not vertical
 unfoldable pub beside : Key Coordinate → Key Coordinate → Bool

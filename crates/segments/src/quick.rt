@@ -1,12 +1,10 @@
 // Segment order by plain comparisons, where the boxes of two segments are certain of it. A test that passes tells of the exact signs and of the crossing;
 // one that fails tells nothing.
+use numbers::HUGE;
 use order::Key;
 ghost use mathlib.Core.Path.{_≡_};
 ghost use Rattle.order.specs.Keys.{shownKey};
 ghost use Rattle.segments.specs.Quick.{beside, belowBoth, under};
-
-// 2^1023: a number that lies between it and its negative is finite.
-const HUGE: f64 = 8.98846567431158e307;
 
 // In x the newer one starts between the older one's ends or at one of them, and the older one is not vertical.
 pub fn is_beside(old: Key, new: Key) -> bool

@@ -1,18 +1,14 @@
--- What stands at a place, and the members after an insertion or a removal in the lent array.
+-- What stands at a place.
 use mathlib.Core.Path.{_≡_, refl}
 use mathlib.Core.List.{List, [], _∷_}
 use Prim.Native.Nat.{ℕ, zero, suc, _-_, _<_, _≤_}
-use native.Mathlib.Numerals.{add-one, sub-one}
+use native.Mathlib.Numerals.{sub-one}
 use native.Mathlib.Omega.{arith}
-use borrow.Author.Tests.{le-ltb, lt-leb}
-use lib.ListN.{length, take, getD, length-take, length-append, length-drop}
-use lib.Seq.{take-at, length-take-le, getD-take}
-use Rattle.lists.specs.Lists.{insertAt, removeAt, entered, left, inserted, removed}
+use lib.ListN.{length, take, getD, length-take}
+use lib.Seq.{getD-take}
 use Rattle.events.specs.declared.Link.{Link}
 use Rattle.events.specs.declared.Link.the-variants.{None, To}
-use Rattle.status.specs.Status.{member, below, insert, remove}
-
--- ---- what stands at a place
+use Rattle.status.specs.Status.{member, below}
 
 pub member-there : (l : List ℕ) (k : ℕ) → k < length l → To (getD l k 0) ≡ member l k
 unfolding member
@@ -52,29 +48,3 @@ module _ (l : List ℕ) where
   unfolding below
   below-read zero h e = absurd (omega arith)
   below-read (suc k) h e = rw (e, sub-one)
-
--- ---- the number of members
-
-pub length-insert : (l : List ℕ) (k e : ℕ) → length (insert l k e) ≡ suc (length l)
-unfolding insert
-length-insert l k e = rw (length-append, length-take, length-drop) (omega arith)
-
-pub length-remove : (l : List ℕ) (k : ℕ) → k < length l → suc (length (remove l k)) ≡ length l
-unfolding remove
-length-remove l k h = rw (length-append, length-take, length-drop) (omega arith)
-
--- ---- the members in the lent array afterwards
-
-pub members-inserted : (s : List ℕ) (n k e : ℕ) → k ≤ n → n < length s → take (suc n) (inserted s n k e) ≡ insert (take n s) k e
-unfolding inserted entered insertAt insert
-members-inserted s n k e h r =
-    let long = length-insert (take n s) k e in
-    let q = length-take-le n s (omega arith) in
-    rw (le-ltb n k h, lt-leb (length s) n r) (take-at _ _ (suc n) (omega arith))
-
-pub members-removed : (s : List ℕ) (n k : ℕ) → k < n → n ≤ length s → take (n - 1) (removed s n k) ≡ remove (take n s) k
-unfolding removed left removeAt remove
-members-removed s n k h r =
-    let q = length-take-le n s r in
-    let long = length-remove (take n s) k (omega arith) in
-    rw (lt-leb n k h, le-ltb (length s) n r, add-one) (take-at _ _ (n - 1) (omega arith))

@@ -2,7 +2,8 @@
 ghost use mathlib.Core.Path.{_≡_};
 ghost use lib.Dec.{eqb};
 ghost use lib.ListN.{length, take};
-ghost use Rattle.status.specs.Status.{slot, member, below};
+ghost use Rattle.lists.specs.Lists.{slot};
+ghost use Rattle.status.specs.Status.{member, below};
 use events::Link;
 
 // How many members there are: an array shorter than n has no more than it holds.

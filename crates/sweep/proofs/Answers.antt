@@ -1,12 +1,12 @@
 -- What the entry's counts tell: the events counted are those of the run, in their order, at the start of the taken list, whose rest is as lent; the
 -- loaded records and two for each division counted are in use; and a sweep that was not refused has come to its end.
-use mathlib.Core.Path.{_≡_, refl, _∙_}
+use mathlib.Core.Path.{_≡_, refl}
 use mathlib.Core.List.{List, _++_}
 use Prim.Native.Nat.{ℕ, _+_, _*_, _≤_}
-use native.Mathlib.Nat.{zero-add}
 use native.Mathlib.Omega.{arith}
 use lib.ListN.{length, take, drop}
-use lib.Seq.{sets, sets-eq, take-append-seam, drop-append-seam}
+use lib.Seq.{sets, take-append-seam, drop-append-seam}
+use Rattle.lists.proofs.Fronts.{sets-front}
 use Rattle.events.specs.Binary64.{binary64, plain}
 use Rattle.events.specs.Pool.{Pool, stored}
 use Rattle.events.proofs.Stored.{pool-stored}
@@ -44,7 +44,7 @@ module _ (op : Operation) (p : Pool) (n : ℕ) (lent : List ℕ) where
         omega (arith, s, k, a .1)
 
     list : sets lent 0 (last .taken) ≡ last .taken ++ drop (length (last .taken)) lent
-    list = sets-eq (last .taken) lent 0 (omega (arith, room)) ∙ rw zero-add
+    list = sets-front lent (last .taken) room
 
     pub events-counted : take (subdividePool op p n lent .answer .taken) (subdividePool op p n lent .taken) ≡ last .taken
     unfolding subdividePool afterChecks afterRun answerOf

@@ -7,6 +7,8 @@ use Prim.Native.Nat.{ℕ, suc, _+_, _-_, _≤_}
 use native.Mathlib.Omega.{arith}
 use lib.Dec.{eqb, ltb}
 use lib.ListN.{length, length-take, length-append, length-drop}
+use Rattle.lists.specs.Lists.{slot, removeAt}
+use Rattle.lists.proofs.Members.{length-insert}
 use Rattle.events.specs.Coordinates.{Coordinates, Crossing}
 use Rattle.events.specs.Store.{Store, look}
 use Rattle.events.proofs.Stored.{Stored}
@@ -15,8 +17,7 @@ use Rattle.neighbours.specs.declared.Met.{Met}
 use Rattle.neighbours.specs.declared.Met.the-variants.{Code, Refused}
 use Rattle.neighbours.specs.Neighbours.{Meeting}
 use Rattle.neighbours.proofs.Growth.{Grows, grows-still}
-use Rattle.status.specs.Status.{slot, remove, below, member}
-use Rattle.status.proofs.Members.{length-insert}
+use Rattle.status.specs.Status.{below, member}
 use Rattle.sweep.specs.State.{State, halt, ranked, goOn, andThen, stopBy, meets}
 use Rattle.sweep_events.specs.Event.{closeUp, isBelow}
 use Rattle.sweep_events.proofs.Growth.{grows-between, grows-close}
@@ -36,8 +37,8 @@ module _ {P S : Type 0} (C : Coordinates P) (K : Store P S) (L : Stored K) (cros
   turned-cond s true x y a d = a
   turned-cond s false x y a d = d
 
-  less : (l : List ℕ) (k : ℕ) → length (remove l k) ≤ length l + 1
-  unfolding remove
+  less : (l : List ℕ) (k : ℕ) → length (removeAt l k) ≤ length l + 1
+  unfolding removeAt
   less l k = rw (length-append, length-take, length-drop) (omega arith)
 
   turned-leaveAt : (s : State S) (k : ℕ) → Turned K s (leaveAt C K crossing s k)
@@ -50,7 +51,7 @@ module _ {P S : Type 0} (C : Coordinates P) (K : Store P S) (L : Stored K) (cros
       grown : Grows K (s .store) (s .used) (m .store) (m .used)
       grown = grows-close C K L crossing (s .store) (s .used) _ _
 
-      go : (x : Met) → m .met ≡ x → Turned K s (goOn (stopBy x) (meets s m) (λ t. ranked t (remove (s .status) k)))
+      go : (x : Met) → m .met ≡ x → Turned K s (goOn (stopBy x) (meets s m) (λ t. ranked t (removeAt (s .status) k)))
       go (Code c) h = record { waits = refl; taken = refl; status = less (s .status) k; grows = grown }
       go (Refused r) h = record { waits = refl; taken = refl; status = omega arith; grows = grown }
 

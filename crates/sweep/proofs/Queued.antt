@@ -1,17 +1,16 @@
 -- The queue in the first n places of an array: what each of the code's steps makes of it is what the definitions say.
 use mathlib.Core.Path.{_≡_, refl, sym, _∙_}
 use mathlib.Core.Bool.{Bool, true, false, cond}
-use mathlib.Core.List.{List, [], append-nil}
+use mathlib.Core.List.{List}
 use Prim.Native.Nat.{ℕ, zero, suc, _+_, _-_, _/_, _<_, _≤_}
 use native.Mathlib.Numerals.{add-one}
 use native.Mathlib.Omega.{arith}
 use borrow.Author.Tests.{lt-ltb, le-ltb}
 use lib.Dec.{eqb}
-use lib.ListN.{length, take, drop, getD, drop-of-length-le}
-use lib.Seq.{take-all, length-take-le, getD-take}
-use Rattle.lists.specs.Lists.{inserted, removed}
-use Rattle.status.specs.Status.{slot, remove}
-use Rattle.status.proofs.Members.{members-inserted, members-removed}
+use lib.ListN.{length, take, getD}
+use lib.Seq.{length-take-le, getD-take}
+use Rattle.lists.specs.Lists.{slot, inserted, removed}
+use Rattle.lists.proofs.Members.{remove-past, members-inserted, members-removed}
 use Rattle.waiting.specs.Queue.{leads, halving, place, put, without, isOlder, evicted, admit, admitted, requeued}
 
 -- ---- a place found by halving
@@ -74,12 +73,6 @@ module _ (before : ℕ → ℕ → Bool) (s : List ℕ) (n x : ℕ) where
 
 -- ---- a number taken out
 
-remove-past : (l : List ℕ) (k : ℕ) → length l ≤ k → remove l k ≡ l
-unfolding remove
-remove-past l k h =
-    let past : drop (suc k) l ≡ [] = drop-of-length-le l {i = suc k} (omega arith) in
-    rw (past, append-nil) (take-all k l h)
-
 module _ (s : List ℕ) (n o at : ℕ) (fit : n ≤ length s) (e : at ≡ slot (λ m. eqb m o) (take n s)) where
   pub out-none : n ≤ at → take n s ≡ without (take n s) o
   unfolding without
@@ -124,34 +117,15 @@ module _ (from r : ℕ) (h : from ≤ r) where
     unfolding admitted
     admitted-next before room now k e f = rw (count-on, count-back, ← e, ← k) f
 
--- one partner, taken out if it is older and waits
-module _ (from : ℕ) (waits : ℕ → Bool) (l : List ℕ) (o : ℕ) where
-  pub evict-young : from ≤ o → l ≡ cond (isOlder from waits o) (without l o) l
-  unfolding isOlder
-  evict-young h = rw (le-ltb o from h)
-
-  pub evict-taken : o < from → {w : Bool} → w ≡ waits o → w ≡ false → l ≡ cond (isOlder from waits o) (without l o) l
-  unfolding isOlder
-  evict-taken h hw f = rw (lt-ltb o from h, ← hw, f)
-
-  pub evict-old : o < from → {w : Bool} → w ≡ waits o → w ≡ true → (m : List ℕ) → m ≡ without l o → m ≡ cond (isOlder from waits o) (without l o) l
-  unfolding isOlder
-  evict-old h hw f m e = rw (lt-ltb o from h, ← hw, f) e
-
 -- one record, with its partner if that is older and waits
-module _ (partner : ℕ → ℕ) (from : ℕ) (waits : ℕ → Bool) (before : ℕ → ℕ → Bool) (room : ℕ) (l m : List ℕ) (r o : ℕ) (ho : o ≡ partner r) (hm : m ≡ put before room l r) where
-  pub admit-young : from ≤ o → m ≡ admit partner from waits before room l r
-  unfolding admit isOlder
-  admit-young h = rw (← ho, le-ltb o from h) hm
+module _ (partner : ℕ → ℕ) (from : ℕ) (waits : ℕ → Bool) (before : ℕ → ℕ → Bool) (room : ℕ) (l m : List ℕ) (r o : ℕ) (ho : o ≡ partner r) (hm : m ≡ put before room l r) {old : Bool} (hold : old ≡ isOlder from waits o) where
+  pub admit-old : old ≡ true → (m' : List ℕ) (now : ℕ) → now ≡ room → m' ≡ put before now m o → m' ≡ admit partner from waits before room l r
+  unfolding admit
+  admit-old t m' now k e = rw (← ho, ← hold, t, ← hm, ← k) e
 
-  pub admit-taken : o < from → {w : Bool} → w ≡ waits o → w ≡ false → m ≡ admit partner from waits before room l r
-  unfolding admit isOlder
-  admit-taken h hw f = rw (← ho, lt-ltb o from h, ← hw, f) hm
-
-  pub admit-old : o < from → {w : Bool} → w ≡ waits o → w ≡ true → (m' : List ℕ) (now : ℕ) → now ≡ room → m' ≡ put before now m o
-      → m' ≡ admit partner from waits before room l r
-  unfolding admit isOlder
-  admit-old h hw f m' now k e = rw (← ho, lt-ltb o from h, ← hw, f, ← hm, ← k) e
+  pub admit-alone : old ≡ false → m ≡ admit partner from waits before room l r
+  unfolding admit
+  admit-alone f = rw (← ho, ← hold, f) hm
 
 -- ---- all of them
 

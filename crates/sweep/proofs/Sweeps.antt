@@ -1,16 +1,16 @@
 -- The whole sweep: what the run starts from, and what its last turn tells.
 use mathlib.Core.Path.{_≡_, refl, ap, _∙_}
 use mathlib.Core.Bool.{Bool, true, false, not, cond, _||_}
-use mathlib.Core.List.{List, [], _∷_, _++_}
+use mathlib.Core.List.{List, [], _∷_}
 use mathlib.Core.Option.{Option}
 use Prim.Native.Nat.{ℕ, zero, suc, _+_, _-_, _/_, _≤_}
 use native.Mathlib.Numerals.{add-one}
-use native.Mathlib.Nat.{zero-add}
 use native.Mathlib.Omega.{arith}
 use borrow.Author.Tests.{eqb-true, not-false}
 use lib.Dec.{eqb, ltb}
-use lib.ListN.{length, take, drop, replicate, length-replicate}
-use lib.Seq.{sets, sets-eq, length-take-le}
+use lib.ListN.{length, take, drop, replicate, length-replicate, take-append-drop}
+use lib.Seq.{sets, length-take-le}
+use Rattle.lists.proofs.Fronts.{sets-front}
 use Rattle.refusals.specs.declared.Refusal.{Refusal}
 use Rattle.numbers.specs.declared.Coordinate.{Coordinate}
 use Rattle.events.specs.Binary64.{binary64, plain}
@@ -98,18 +98,11 @@ fits-at-start n loaded waiting w status taken t few is hw hs ht =
 
 -- ---- the end
 
-split-at : (n : ℕ) (l : List ℕ) → take n l ++ drop n l ≡ l
-split-at zero l = refl
-split-at (suc n) [] = refl
-split-at (suc n) (x ∷ l) = ap (λ r. x ∷ r) (split-at n l)
-
 -- the events taken stand from the first place on, and the rest is as lent
 listed : (c : ℕ) (lent now : List ℕ) → c ≤ length lent → length now ≡ length lent → drop c now ≡ drop c lent → sets lent 0 (take c now) ≡ now
 listed c lent now h l e =
     let long : length (take c now) ≡ c = length-take-le c now (omega arith) in
-    let all : 0 + length (take c now) ≤ length lent = omega (arith, long) in
-    let whole : take c now ++ drop c lent ≡ now = rw (← e) (split-at c now) in
-    sets-eq (take c now) lent 0 all ∙ rw (long, zero-add) whole
+    sets-front lent (take c now) (omega arith) ∙ rw (long, ← e) (take-append-drop c now)
 
 -- before anything is done no event is taken and no segment is in the status
 pub none-yet : (n waiting : ℕ) (t : Turn) (l : List ℕ) → t ≡ linedTurn (startTurn n) waiting → (take (t .members) l ≡ []) × (take (t .count) l ≡ [])

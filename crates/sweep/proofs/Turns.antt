@@ -11,7 +11,9 @@ use lib.ListN.{length, take, length-take}
 use lib.Seq.{length-take-le}
 use Rattle.refusals.specs.declared.Refusal.{Refusal}
 use Rattle.numbers.specs.declared.Coordinate.{Coordinate}
-use Rattle.lists.specs.Lists.{inserted, removed}
+use Rattle.lists.specs.Lists.{slot, insertAt, inserted, removed}
+use Rattle.lists.proofs.Slots.{slot-within}
+use Rattle.lists.proofs.Members.{members-inserted, members-removed}
 use Rattle.events.specs.declared.Link.{Link}
 use Rattle.events.specs.declared.Link.the-variants.{None}
 use Rattle.events.specs.Binary64.{binary64, plain}
@@ -22,9 +24,7 @@ use Rattle.class.specs.declared.Operation.{Operation}
 use Rattle.neighbours.specs.declared.Met.{Met}
 use Rattle.neighbours.specs.declared.Met.the-variants.{Code, Refused}
 use Rattle.neighbours.specs.Neighbours.{meeting}
-use Rattle.status.specs.Status.{slot, member, below, insert}
-use Rattle.status.proofs.Slots.{slot-within}
-use Rattle.status.proofs.Members.{members-inserted, members-removed}
+use Rattle.status.specs.Status.{member, below}
 use Rattle.sweep.specs.declared.turn.Turn.{Turn}
 use Rattle.sweep.specs.State.{halt, ranked, goOn, andThen, stopBy, meets}
 use Rattle.sweep_events.specs.Event.{between, closeUp, isBelow}
@@ -51,7 +51,7 @@ pub lowest-none : (l : List ℕ) (k : ℕ) → k ≡ 0 → None ≡ below l (k -
 unfolding below
 lowest-none l k h = rw h
 
-members-in : (status : List ℕ) (n k e : ℕ) → k ≤ length (take n status) → n < length status → take (n + 1) (inserted status n k e) ≡ insert (take n status) k e
+members-in : (status : List ℕ) (n k e : ℕ) → k ≤ length (take n status) → n < length status → take (n + 1) (inserted status n k e) ≡ insertAt (take n status) k e
 members-in status n k e h r =
     let q = length-take n status in
     rw add-one (members-inserted status n k e (omega arith) r)

@@ -10,6 +10,7 @@ use borrow.Author.Tests.{eqb-true}
 use Rattle.events.specs.declared.EdgeType.the-variants.{NonContributing}
 use Rattle.events.specs.declared.Link.{Link}
 use Rattle.events.specs.declared.Link.the-variants.{None, To}
+use Rattle.lists.specs.Lists.{slot, insertAt, removeAt}
 use Rattle.events.specs.Coordinates.{Coordinates, Cross, none, lost, point, overlap, Crossing}
 use Rattle.events.specs.Event.{Event}
 use Rattle.events.specs.Store.{Store, look}
@@ -23,7 +24,7 @@ use Rattle.neighbours.specs.declared.step.Stop.the-variants.{Going as On, Stopp
 use Rattle.neighbours.specs.Step.{step, cut, cutUnless, twice}
 use Rattle.neighbours.specs.Step as Step
 use Rattle.neighbours.specs.Neighbours.{Meeting, meeting, ended, typed, crossed, coincided, leftShared, laid, overlapped, oneLayer, meetBy, meet}
-use Rattle.status.specs.Status.{slot, member, below, insert, remove}
+use Rattle.status.specs.Status.{member, below}
 use Rattle.sweep.specs.declared.turn.Stop.{Stop}
 use Rattle.sweep.specs.declared.turn.Stop.the-variants.{Going, Ended, Refused}
 use Rattle.sweep.specs.State.{State, halt, ranked, goOn, andThen, meets}
@@ -99,12 +100,12 @@ module _ (N : ℕ → Type 0) where
   all-append [] m h g = g
   all-append (x ∷ l) m h g = (h .0, all-append l m (h .1) g)
 
-  all-insert : (l : List ℕ) (k e : ℕ) → All N l → N e → All N (insert l k e)
-  unfolding insert
+  all-insert : (l : List ℕ) (k e : ℕ) → All N l → N e → All N (insertAt l k e)
+  unfolding insertAt
   all-insert l k e h n = all-append (take k l) (e ∷ drop k l) (all-take k l h) (n, all-drop k l h)
 
-  all-remove : (l : List ℕ) (k : ℕ) → All N l → All N (remove l k)
-  unfolding remove
+  all-remove : (l : List ℕ) (k : ℕ) → All N l → All N (removeAt l k)
+  unfolding removeAt
   all-remove l k h = all-append (take k l) (drop (suc k) l) (all-take k l h) (all-drop (suc k) l h)
 
 -- ---- the walk

@@ -3,10 +3,11 @@ use mathlib.Core.Bool.{Bool, cond}
 use Prim.Native.Nat.{ℕ, suc, _-_}
 use lib.ListN.{length}
 use lib.Dec.{eqb, ltb}
+use Rattle.lists.specs.Lists.{slot, insertAt, removeAt}
 use Rattle.events.specs.Coordinates.{Coordinates, Crossing}
 use Rattle.events.specs.Store.{Store, look}
 use Rattle.class.specs.declared.Operation.{Operation}
-use Rattle.status.specs.Status.{slot, member, below, insert, remove}
+use Rattle.status.specs.Status.{member, below}
 use Rattle.sweep_events.specs.Event.{between, closeUp, isBelow}
 use Rattle.sweep.specs.declared.turn.Stop.the-variants.{Ended}
 use Rattle.sweep.specs.State.{State, halt, ranked, andThen, meets}
@@ -16,7 +17,7 @@ module _ {P S : Type 0} (C : Coordinates P) (K : Store P S) (crossing : Crossing
   unfoldable pub leaveAt : State S → ℕ → State S
   leaveAt s k =
       let l = s .status in
-      andThen (meets s (closeUp C K crossing (s .store) (s .used) (below l k) (member l (suc k)))) (λ t. ranked t (remove l k))
+      andThen (meets s (closeUp C K crossing (s .store) (s .used) (below l k) (member l (suc k)))) (λ t. ranked t (removeAt l k))
 
   -- left record o, if it is a member
   unfoldable pub leave : State S → ℕ → State S
@@ -28,7 +29,7 @@ module _ {P S : Type 0} (C : Coordinates P) (K : Store P S) (crossing : Crossing
     enter s e =
         let l = s .status in
         let k = slot (isBelow C K crossing (s .store) (s .used) e) l in
-        meets (ranked s (insert l k e)) (between C K op crossing (s .store) (s .used) e (below l k) (member l k) (below l (k - 1)))
+        meets (ranked s (insertAt l k e)) (between C K op crossing (s .store) (s .used) e (below l k) (member l k) (below l (k - 1)))
 
     -- ---- either, unless the event lies past all that matters
 

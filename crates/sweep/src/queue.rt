@@ -78,16 +78,24 @@ fn take_out(queue: &mut [u32], n: u32, o: u32) -> u32
     n - 1
 }
 
-// Takes number o out, if it is older than `from` and waits: no other is a member.
+// Number o is older than `from` and waits: no other number below `from` is a member.
+fn is_older(waits: &[bool], from: u32, o: u32) -> bool
+    ensures { λ r. ⌜ r ≡ Queue.isOlder from (flagged (now (waits .entry))) o ⌝ }
+{
+    if o < from {
+        return is_waiting(waits, o);
+    }
+    false
+}
+
+// Takes number o out, if it is older and waits.
 fn evict(waits: &[bool], from: u32, queue: &mut [u32], n: u32, o: u32) -> u32
     requires { ⌜ n ≤ length (now queue) ⌝ }
     ensures { λ r. ⌜ take r (now (queue .exit)) ≡ cond (Queue.isOlder from (flagged (now (waits .entry))) o) (Queue.without (take n (now (queue .entry))) o) (take n (now (queue .entry))) ⌝ }
     ensures { λ r. ⌜ r ≤ length (now (queue .exit)) ⌝ }
 {
-    if o < from {
-        if is_waiting(waits, o) {
-            return take_out(queue, n, o);
-        }
+    if is_older(waits, from, o) {
+        return take_out(queue, n, o);
     }
     n
 }
@@ -116,7 +124,7 @@ fn evict_all(
     last
 }
 
-// Record r is put in, and its partner if that is older than `from` and waits.
+// Record r is put in, and its partner if that is older and waits.
 fn admit(
     points: &[[f64; 2]],
     marks: &[[u32; 12]],
@@ -134,10 +142,8 @@ fn admit(
     let f = read_used(points, marks, used, r);
     let o = f.partner;
     let m = put(points, marks, used, queue, n, r);
-    if o < from {
-        if is_waiting(waits, o) {
-            return put(points, marks, used, queue, m, o);
-        }
+    if is_older(waits, from, o) {
+        return put(points, marks, used, queue, m, o);
     }
     m
 }

@@ -7,7 +7,7 @@ ghost use Rattle.events.specs.Binary64.{binary64, plain};
 ghost use Rattle.events.specs.Pool.{pool, stored};
 ghost use Rattle.order.specs.Keys.{shownKey, keyUsed};
 ghost use Rattle.segments.specs.Segments.{compareSegments};
-ghost use Rattle.status.specs.Status.{slot};
+ghost use Rattle.lists.specs.Lists.{slot};
 ghost use Rattle.sweep_events.specs.Event.{isLess, isBelow};
 use order::Key;
 use order::key_used;

@@ -4,8 +4,9 @@ use mathlib.Core.Bool.{Bool}
 use mathlib.Core.List.{List, [], _∷_, _++_, map}
 use Prim.Native.Nat.{ℕ, zero, suc}
 use lib.ListN.{take, drop}
+use Rattle.lists.specs.Lists.{slot, insertAt, removeAt}
 use Rattle.events.specs.Renaming.{renameLink}
-use Rattle.status.specs.Status.{slot, member, below, insert, remove}
+use Rattle.status.specs.Status.{member, below}
 
 module _ (f : ℕ → ℕ) where
   pub slot-to : (test test′ : ℕ → Bool) → ((r : ℕ) → test′ (f r) ≡ test r) → (l : List ℕ) → slot test′ (map f l) ≡ slot test l
@@ -38,10 +39,10 @@ module _ (f : ℕ → ℕ) where
   drop-map (suc k) [] = refl
   drop-map (suc k) (x ∷ l) = drop-map k l
 
-  pub insert-to : (l : List ℕ) (k e : ℕ) → insert (map f l) k (f e) ≡ map f (insert l k e)
-  unfolding insert
+  pub insert-to : (l : List ℕ) (k e : ℕ) → insertAt (map f l) k (f e) ≡ map f (insertAt l k e)
+  unfolding insertAt
   insert-to l k e = rw (take-map k l, drop-map k l) (sym (map-append (take k l) (e ∷ drop k l)))
 
-  pub remove-to : (l : List ℕ) (k : ℕ) → remove (map f l) k ≡ map f (remove l k)
-  unfolding remove
+  pub remove-to : (l : List ℕ) (k : ℕ) → removeAt (map f l) k ≡ map f (removeAt l k)
+  unfolding removeAt
   remove-to l k = rw (take-map k l, drop-map (suc k) l) (sym (map-append (take k l) (drop (suc k) l)))

@@ -7,10 +7,10 @@ use lib.ListN.{length}
 use lib.Dec.{eqb, ltb}
 use Rattle.events.specs.declared.Link.{Link}
 use Rattle.events.specs.declared.Link.the-variants.{None, To}
+use Rattle.lists.specs.Lists.{slot}
 use Rattle.events.specs.Coordinates.{Coordinates, Crossing}
 use Rattle.events.specs.Store.{Store, look}
 use Rattle.class.specs.declared.Operation.{Operation}
-use Rattle.status.specs.Status.{slot}
 use Rattle.sweep.specs.declared.turn.Stop.{Stop}
 use Rattle.sweep.specs.declared.turn.Stop.the-variants.{Going, Ended, Refused}
 use Rattle.sweep.specs.State.{State, halt, ranked, takes, goOn, andThen, meets}

@@ -9,6 +9,7 @@ use lib.Dec.{eqb, ltb}
 use borrow.Author.Tests.{ltb-true, ltb-false, eqb-true, eqb-false}
 use Rattle.events.specs.declared.Link.{Link}
 use Rattle.events.specs.declared.Link.the-variants.{None, To}
+use Rattle.lists.specs.Lists.{slot, insertAt, removeAt}
 use Rattle.events.specs.Coordinates.{Coordinates, Crossing}
 use Rattle.events.specs.Event.{Event, hasTransition}
 use Rattle.events.specs.Renaming.{renameLink, rename}
@@ -20,7 +21,7 @@ use Rattle.class.specs.Class.{Neighbour, Lower, None as NoEdge, Edge, written, 
 use Rattle.neighbours.specs.declared.Met.{Met}
 use Rattle.neighbours.specs.declared.Met.the-variants.{Code, Refused as NotMet}
 use Rattle.neighbours.specs.Neighbours.{Meeting, meeting}
-use Rattle.status.specs.Status.{slot, member, below, insert, remove}
+use Rattle.status.specs.Status.{member, below}
 use Rattle.waiting.specs.Waiting.{flagged}
 use Rattle.sweep.specs.declared.turn.Stop.{Stop}
 use Rattle.sweep.specs.declared.turn.Stop.the-variants.{Going, Ended, Refused}
@@ -213,11 +214,11 @@ module _ {P S : Type 0} (C : Coordinates P) {K : Store P S} (st : Stored K) {n :
       slot-below used′ l l′ e p q = rw (p, q) (slot-to (ρ .to) _ _ (isBelow-to crossing (m .stores) e) l)
 
       sim-entered : (used′ : ℕ) (l l′ : List ℕ) (k k′ e : ℕ) → used′ ≡ s .used → l′ ≡ map (ρ .to) l → k′ ≡ k
-          → Sim K ρ (meets (ranked s (insert l k e)) (between C K op crossing (s .store) (s .used) e (below l k) (member l k) (below l (k - 1))))
-          (meets (ranked s′ (insert l′ k′ (ρ .to e))) (between C K op crossing (s′ .store) used′ (ρ .to e) (below l′ k′) (member l′ k′) (below l′ (k′ - 1))))
+          → Sim K ρ (meets (ranked s (insertAt l k e)) (between C K op crossing (s .store) (s .used) e (below l k) (member l k) (below l (k - 1))))
+          (meets (ranked s′ (insertAt l′ k′ (ρ .to e))) (between C K op crossing (s′ .store) used′ (ρ .to e) (below l′ k′) (member l′ k′) (below l′ (k′ - 1))))
       sim-entered used′ l l′ k k′ e p q r =
           rw (p, q, r, below-to (ρ .to) l k, member-to (ρ .to) l k, below-to (ρ .to) l (k - 1))
-          (sim-meets (sim-ranked m (insert l k e) _ (insert-to (ρ .to) l k e)) _ _
+          (sim-meets (sim-ranked m (insertAt l k e) _ (insert-to (ρ .to) l k e)) _ _
           (twin-between crossing (m .stores) op e (below l k) (member l k) (below l (k - 1))))
 
       sim-enter : (e : ℕ) → Sim K ρ (enter C K crossing op s e) (enter C K crossing op s′ (ρ .to e))
@@ -225,12 +226,12 @@ module _ {P S : Type 0} (C : Coordinates P) {K : Store P S} (st : Stored K) {n :
       sim-enter e = sim-entered (s′ .used) (s .status) (s′ .status) _ _ e (m .used) (m .status) (slot-below (s′ .used) (s .status) (s′ .status) e (m .used) (m .status))
 
       sim-leaveAt : (used′ : ℕ) (l l′ : List ℕ) (k k′ : ℕ) → used′ ≡ s .used → l′ ≡ map (ρ .to) l → k′ ≡ k
-          → Sim K ρ (andThen (meets s (closeUp C K crossing (s .store) (s .used) (below l k) (member l (suc k)))) (λ t. ranked t (remove l k)))
-          (andThen (meets s′ (closeUp C K crossing (s′ .store) used′ (below l′ k′) (member l′ (suc k′)))) (λ t. ranked t (remove l′ k′)))
+          → Sim K ρ (andThen (meets s (closeUp C K crossing (s .store) (s .used) (below l k) (member l (suc k)))) (λ t. ranked t (removeAt l k)))
+          (andThen (meets s′ (closeUp C K crossing (s′ .store) used′ (below l′ k′) (member l′ (suc k′)))) (λ t. ranked t (removeAt l′ k′)))
       sim-leaveAt used′ l l′ k k′ p q r =
           rw (p, q, r, below-to (ρ .to) l k, member-to (ρ .to) l (suc k))
           (sim-then _ _ _ _ (sim-meets m _ _ (twin-closeUp crossing (m .stores) (below l k) (member l (suc k))))
-          (λ t t′ j. sim-ranked j (remove l k) _ (remove-to (ρ .to) l k)))
+          (λ t t′ j. sim-ranked j (removeAt l k) _ (remove-to (ρ .to) l k)))
 
       slot-of : (l l′ : List ℕ) (o : ℕ) → l′ ≡ map (ρ .to) l → slot (λ x. eqb x (ρ .to o)) l′ ≡ slot (λ x. eqb x o) l
       slot-of l l′ o q = rw q (slot-to (ρ .to) (λ x. eqb x o) (λ x. eqb x (ρ .to o)) (λ x. eqb-to ρ x o) l)

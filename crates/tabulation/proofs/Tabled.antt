@@ -1,13 +1,14 @@
 -- The three steps one after the other, where there is room: each hands the next what it asks for, and together they lay the definition's table.
 use mathlib.Core.Path.{_≡_, refl, sym, ap, _∙_}
 use mathlib.Core.Bool.{Bool, true, false, cond, true≢false}
-use mathlib.Core.List.{List, [], _∷_, _++_, map}
-use Prim.Native.Nat.{ℕ, suc, _+_, _≤_}
+use mathlib.Core.List.{List, [], _∷_, map}
+use Prim.Native.Nat.{ℕ, suc, _≤_}
 use native.Mathlib.Omega.{arith}
 use borrow.Author.Tests.{ltb-false, leb-true, le-ltb}
 use lib.Dec.{ltb}
 use lib.ListN.{length, take, drop, length-append}
-use lib.Seq.{sets, sets-eq, take-at}
+use lib.Seq.{take-at}
+use Rattle.lists.proofs.Fronts.{sets-front}
 use Rattle.numbers.specs.declared.Coordinate.{Coordinate}
 use Rattle.events.specs.Binary64.{binary64}
 use Rattle.events.specs.Pool.{Pool, rowAt}
@@ -55,12 +56,8 @@ pub length-map : {A B : Type 0} (f : A → B) (l : List A) → length (map f l) 
 length-map f [] = refl
 length-map f (a ∷ l) = ap suc (length-map f l)
 
-pub sets-front : {A : Type 0} (l vs : List A) → length vs ≤ length l → sets l 0 vs ≡ inFront vs l
-unfolding inFront
-sets-front l vs h = let e : 0 + length vs ≡ length vs = omega arith in sets-eq vs l 0 (omega (arith, h)) ∙ ap (λ (k : ℕ). vs ++ drop k l) e
-
 puts-laid : (rs : List (Row Coordinate)) (t : Rows) → length rs ≤ length (t .rows) → length rs ≤ length (t .at) → puts t 0 rs ≡ laid rs t
-unfolding puts laid
+unfolding puts laid inFront
 puts-laid rs t h k =
     rw (sets-front (t .rows) (map rowCode rs) (rw (length-map rowCode rs) h), sets-front (t .at) (map atCode rs) (rw (length-map atCode rs) k))
 

@@ -6,8 +6,8 @@ use mathlib.Core.List.{List, [], _∷_, _++_, map}
 use Prim.Native.Nat.{ℕ, zero, suc, _+_, _≤_, _<_}
 use native.Mathlib.Omega.{arith}
 use borrow.Author.Tests.{le-leb, leb-true, eq-eqb, ne-eqb, eqb-true, eqb-false}
-use lib.ListN.{length, getD, drop, length-append, length-map}
-use lib.Seq.{sets, sets-eq}
+use lib.ListN.{length, getD, length-append, length-map}
+use lib.Seq.{sets}
 use lib.Dec.{eqb, leb}
 use lib.Ieee.{Float}
 use Rattle.numbers.specs.declared.Coordinate.{Coordinate}
@@ -175,7 +175,7 @@ module _ (t : Rows) (out : List (List Float)) (ks : List (List ℕ)) (hs : List 
   answered-is : size t ≤ maxEvents → size t ≤ length ns → (a : Answer) → Ends (size t) (λ i ms cs. length cs ≤ i) a → holed ks hs (answerOf t out ns a) ≡ answered (size t) (tableRow t) out ks hs a
   unfolding answerOf answered
   answered-is h r (done ms cs) l = holed-is ms cs 0 0 (omega arith) (omega arith)
-  answered-is h r (halted number i ms cs) l = holed-is ms cs number i (omega (arith, l .0, l .1)) (omega (arith, l .0, l .1))
+  answered-is h r (halted number i ms cs) l = holed-is ms cs number i (omega (arith, l .1, l .2)) (omega (arith, l .1, l .2))
 
   nothing-is : (ms : List ℕ) → holed ks hs (S.sheet ms out ns (turnOf 0 0 0 0 0)) ≡ sheet ms out ks hs (told 0 0 0 0 0 0)
   unfolding holed joined holedOn heldFrom contourRows allHoles
@@ -218,7 +218,3 @@ unfolding tracedOn fits
 of-table t rs ms out ks hs n r l m =
     let e : tableRow t ≡ rowAt void rs = fun-ext r in
     rw (le-leb (size t) maxEvents (omega arith), eq-eqb (length ms) (size t) (omega arith)) (ap (λ (k : ℕ). tracedAll k (tableRow t) out ks hs) n ∙ ap (λ (f : ℕ → Row Coordinate). tracedAll (length rs) f out ks hs) e)
-
--- where there is room, an array holds what is stored and behind it what it held
-pub roomy : {A : Type 0} (l vs : List A) → length vs ≤ length l → sets l 0 vs ≡ vs ++ drop (length vs) l
-roomy l vs h = let z : 0 + length vs ≡ length vs = omega arith in sets-eq vs l 0 (omega arith) ∙ rw z

@@ -7,7 +7,7 @@ use native.Mathlib.Omega.{arith}
 use lib.Dec.{eqb, ltb}
 use lib.ListN.{length, getD, take, drop, take-append-drop}
 use borrow.Author.Tests.{ltb-true, ltb-false, eqb-true, eqb-false}
-use Rattle.status.specs.Status.{insert}
+use Rattle.lists.specs.Lists.{insertAt}
 use Rattle.waiting.specs.Queue.{leads, has, Led, Ordered, halving, place}
 use Rattle.waiting.proofs.Leading.{Orders, turned, leads-trans}
 use Rattle.waiting.proofs.Members.{unless, has-first, has-behind, not-first, not-behind, led-by, has-append}
@@ -39,15 +39,15 @@ module _ (before : ℕ → ℕ → Bool) where
   led-places x [] h = tt
   led-places x (y ∷ l) h = (h 0 (omega arith), led-places x l (λ i k. h (suc i) (omega arith)))
 
-  led-insert : (y : ℕ) (l : List ℕ) (k x : ℕ) → Led before y l → leads before x y ≡ true → Led before y (insert l k x)
-  unfolding Led insert
+  led-insert : (y : ℕ) (l : List ℕ) (k x : ℕ) → Led before y l → leads before x y ≡ true → Led before y (insertAt l k x)
+  unfolding Led insertAt
   led-insert y [] zero x h e = (e, tt)
   led-insert y [] (suc k) x h e = (e, tt)
   led-insert y (z ∷ l) zero x h e = (e, h)
   led-insert y (z ∷ l) (suc k) x h e = (h .0, led-insert y l k x (h .1) e)
 
-  insert-ordered : (l : List ℕ) (k x : ℕ) → Ordered before l → has l x ≡ false → Split before l x k k → Ordered before (insert l k x)
-  unfolding Ordered Led insert
+  insert-ordered : (l : List ℕ) (k x : ℕ) → Ordered before l → has l x ≡ false → Split before l x k k → Ordered before (insertAt l k x)
+  unfolding Ordered Led insertAt
   insert-ordered [] zero x o d s = (tt, tt)
   insert-ordered [] (suc k) x o d s = (tt, tt)
   insert-ordered (y ∷ l) zero x o d s = (led-places x (y ∷ l) (λ i h. s .high i (omega arith) h), o)
@@ -61,8 +61,8 @@ either-way : (a b c : Bool) → (a || (b || c)) ≡ ((a || c) || b)
 either-way true b c = refl
 either-way false b c = or-comm b c
 
-pub has-insert : (l : List ℕ) (k x r : ℕ) → has (insert l k x) r ≡ (has l r || eqb x r)
-unfolding insert has
+pub has-insert : (l : List ℕ) (k x r : ℕ) → has (insertAt l k x) r ≡ (has l r || eqb x r)
+unfolding insertAt has
 has-insert l k x r =
     let whole = ap (λ (m : List ℕ). has m r) (sym (take-append-drop k l)) ∙ has-append (take k l) (drop k l) r in
     has-append (take k l) (x ∷ drop k l) r ∙ either-way (has (take k l) r) (eqb x r) (has (drop k l) r) ∙ ap (λ (t : Bool). t || eqb x r) (sym whole)
@@ -120,7 +120,7 @@ module _ (before : ℕ → ℕ → Bool) {n : ℕ} (O : Orders before n) (l : Li
           let h = ltb-true lo hi p in
           ih ((lo + hi) / 2 + 1) hi (omega arith) (omega arith) c (narrow-low lo ((lo + hi) / 2) hi (omega arith) q s)
 
-  pub place-ordered : has l x ≡ false → Ordered before (insert l (place before l x) x)
+  pub place-ordered : has l x ≡ false → Ordered before (insertAt l (place before l x) x)
   unfolding place Landed
   place-ordered d =
       let all : Split before l x 0 (length l) = record { low = λ i h. absurd (omega arith); high = λ i h k. absurd (omega arith) } in

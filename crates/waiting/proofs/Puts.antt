@@ -7,8 +7,8 @@ use native.Mathlib.Omega.{arith}
 use lib.Dec.{eqb, ltb}
 use lib.ListN.{length}
 use borrow.Author.Tests.{ltb-true, lt-ltb, eqb-true, eqb-false}
-use Rattle.status.specs.Status.{insert}
-use Rattle.status.proofs.Members.{length-insert}
+use Rattle.lists.specs.Lists.{insertAt}
+use Rattle.lists.proofs.Members.{length-insert}
 use Rattle.waiting.specs.Queue.{has, Queued, place, put, without}
 use Rattle.waiting.proofs.Leading.{Orders, self}
 use Rattle.waiting.proofs.Withouts.{without-other, without-gone, without-ordered}
@@ -29,10 +29,10 @@ module _ {waits : ℕ → Bool} {before : ℕ → ℕ → Bool} {n : ℕ} {l : L
     absent : has l x ≡ false
     absent = Q .members x ∙ rw new (and-false (ltb x n))
 
-    inserted : Queued (λ r. waits r || eqb x r) before n (insert l (place before l x) x)
+    inserted : Queued (λ r. waits r || eqb x r) before n (insertAt l (place before l x) x)
     inserted = record { members = there; ordered = place-ordered before O l x (Q .ordered) (is-below Q) x-below absent }
       where
-        there : (r : ℕ) → has (insert l (place before l x) x) r ≡ (ltb r n && (waits r || eqb x r))
+        there : (r : ℕ) → has (insertAt l (place before l x) x) r ≡ (ltb r n && (waits r || eqb x r))
         there r = has-insert l (place before l x) x r ∙ ap (λ (t : Bool). t || eqb x r) (Q .members r) ∙ go (eqb x r) refl
           where
             go : (t : Bool) → eqb x r ≡ t → ((ltb r n && waits r) || t) ≡ (ltb r n && (waits r || t))

@@ -8,15 +8,15 @@ use native.Mathlib.Omega.{arith}
 use lib.Dec.{eqb}
 use lib.ListN.{length}
 use borrow.Author.Tests.{eqb-true, eqb-false, ne-eqb}
-use Rattle.status.specs.Status.{slot, remove}
+use Rattle.lists.specs.Lists.{slot, removeAt}
 use Rattle.waiting.specs.Queue.{leads, has, Led, Ordered, without}
 use Rattle.waiting.proofs.Members.{has-first, has-behind, led-once}
 
 without-cons : (x : ℕ) (l : List ℕ) (o : ℕ) → without (x ∷ l) o ≡ cond (eqb x o) l (x ∷ without l o)
-unfolding without slot remove
+unfolding without slot removeAt
 without-cons x l o = go (eqb x o)
   where
-    go : (t : Bool) → remove (x ∷ l) (cond t 0 (suc (slot (λ m. eqb m o) l))) ≡ cond t l (x ∷ remove l (slot (λ m. eqb m o) l))
+    go : (t : Bool) → removeAt (x ∷ l) (cond t 0 (suc (slot (λ m. eqb m o) l))) ≡ cond t l (x ∷ removeAt l (slot (λ m. eqb m o) l))
     go true = refl
     go false = refl
 
@@ -33,24 +33,24 @@ without-few [] o = omega arith
 without-few (x ∷ l) o = without-by (λ m. suc (length l) ≤ suc (length m)) x l o (λ e. omega arith) (λ d. let h = without-few l o in omega arith)
 
 pub without-other : (l : List ℕ) (o r : ℕ) → r ≢ o → has (without l o) r ≡ has l r
-unfolding has without slot remove
+unfolding has without slot removeAt
 without-other [] o r d = refl
 without-other (x ∷ l) o r d =
     without-by (λ m. has m r ≡ has (x ∷ l) r) x l o (λ e. rw (ne-eqb x r (λ i. d (sym i ∙ e)))) (λ e. ap (λ (t : Bool). eqb x r || t) (without-other l o r d))
 
 module _ (before : ℕ → ℕ → Bool) where
   without-led : (x : ℕ) (l : List ℕ) (o : ℕ) → Led before x l → Led before x (without l o)
-  unfolding Led without slot remove
+  unfolding Led without slot removeAt
   without-led x [] o h = tt
   without-led x (y ∷ l) o h = without-by (Led before x) y l o (λ e. h .1) (λ d. (h .0, without-led x l o (h .1)))
 
   pub without-ordered : (l : List ℕ) (o : ℕ) → Ordered before l → Ordered before (without l o)
-  unfolding Ordered without slot remove
+  unfolding Ordered without slot removeAt
   without-ordered [] o h = tt
   without-ordered (x ∷ l) o h = without-by (Ordered before) x l o (λ e. h .1) (λ d. (without-led x l o (h .0), without-ordered l o (h .1)))
 
   pub without-gone : (l : List ℕ) (o : ℕ) → Ordered before l → (has l o ≡ true → leads before o o ≡ false) → has (without l o) o ≡ false
-  unfolding Ordered has without slot remove
+  unfolding Ordered has without slot removeAt
   without-gone [] o h s = refl
   without-gone (x ∷ l) o h s =
       without-by (λ m. has m o ≡ false) x l o (λ e. led-once before o l (rw e at (h .0)) (s (rw e (has-first o l))))

@@ -6,9 +6,9 @@ use mathlib.Core.List.{List, [], _∷_}
 use Prim.Native.Nat.{ℕ, zero, suc, _+_, _/_}
 use lib.ListN.{length, getD}
 use lib.Dec.{eqb, ltb}
+use Rattle.lists.specs.Lists.{slot, insertAt, removeAt}
 use Rattle.events.specs.declared.Link.{Link}
 use Rattle.events.specs.declared.Link.the-variants.{None, To}
-use Rattle.status.specs.Status.{slot, insert, remove}
 
 -- of two that wait, a is taken before b: on a tie the lower number
 unfoldable pub leads : (ℕ → ℕ → Bool) → ℕ → ℕ → Bool
@@ -55,10 +55,10 @@ module _ (before : ℕ → ℕ → Bool) where
 
   -- where there is room for one more
   unfoldable pub put : ℕ → List ℕ → ℕ → List ℕ
-  put room l x = cond (ltb (length l) room) (insert l (place l x) x) l
+  put room l x = cond (ltb (length l) room) (insertAt l (place l x) x) l
 
 unfoldable pub without : List ℕ → ℕ → List ℕ
-without l o = remove l (slot (λ m. eqb m o) l)
+without l o = removeAt l (slot (λ m. eqb m o) l)
 
 -- ---- n new records, from number `from` on: their older partners have other keys than before
 

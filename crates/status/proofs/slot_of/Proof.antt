@@ -5,7 +5,7 @@ use native.Mathlib.Omega.{arith}
 use borrow.Author.Tests.{eq-eqb, ne-eqb}
 use lib.Dec.{eqb}
 use lib.ListN.{length, take, length-take}
-use Rattle.status.proofs.Slots.{Standing, begun, found, passed, ended}
+use Rattle.lists.proofs.Slots.{Standing, begun, found, passed, ended}
 use Rattle.status.proofs.slot_of.Statement.{statement}
 use Rattle.status.proofs.slot_of.Tie as tie
 

@@ -3,7 +3,7 @@ use borrow.Author.Needs.{needs}
 use borrow.Author.Tests.{not-true, not-false}
 use native.Mathlib.Omega.{arith}
 use Prim.Native.Nat.{_≤_, _-_}
-use mathlib.Core.Path.{_≡_, refl}
+use mathlib.Core.Path.{_≡_, refl, sym, _∙_}
 use lib.ListN.{take, drop}
 use Rattle.events.specs.Pool.{pool}
 use Rattle.positions.specs.Steps.{earlierIn, isSorted}
@@ -25,12 +25,12 @@ loop-holds c = (refl, omega arith)
 returns : tie.Need-returns Inv-loop μ-loop
 returns c =
     let l = c .before .before .before .before in
-    sorted-stop _ _ _ (l .before .before .before .pre) _ _ (l .before .loop .inv .0) (l .loop-test .taken) (earlier-is _ _ _ _ _ (c .before .before-at .ensures) (not-true _ (c .if1 .taken)))
+    sorted-stop _ _ _ (l .before .before .before .pre) _ _ (l .before .loop .inv .0) (l .loop-test .taken) (sym (earlier-is _ _ _ _ (c .before .before-at .ensures)) ∙ not-true _ (c .if1 .taken))
 
 loop-again : tie.Need-loop-again Inv-loop μ-loop
 loop-again c =
     let l = c .before .before .before .before in (
-      sorted-more _ _ _ (l .before .before .before .pre) _ _ (l .before .loop .inv .0) (l .loop-test .taken) (earlier-is _ _ _ _ _ (c .before .before-at .ensures) (not-false _ (c .if1 .left))),
+      sorted-more _ _ _ (l .before .before .before .pre) _ _ (l .before .loop .inv .0) (l .loop-test .taken) (sym (earlier-is _ _ _ _ (c .before .before-at .ensures)) ∙ not-false _ (c .if1 .left)),
       omega arith,
     )
 

@@ -6,7 +6,7 @@ use lib.ListN.{length, take, length-take}
 use Rattle.events.specs.Binary64.{binary64, plain}
 use Rattle.events.specs.Pool.{pool, stored}
 use Rattle.sweep_events.specs.Event.{isBelow}
-use Rattle.status.proofs.Slots.{Standing, begun, found, passed, ended}
+use Rattle.lists.proofs.Slots.{Standing, begun, found, passed, ended}
 use Rattle.sweep_events.proofs.Events.{below-is}
 use Rattle.sweep_events.proofs.slots.slot_below.Statement.{statement}
 use Rattle.sweep_events.proofs.slots.slot_below.Tie as tie

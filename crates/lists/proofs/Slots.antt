@@ -1,4 +1,4 @@
--- A search for a slot from the bottom: after i members, the slot is i further on than in what is left. The members are the first n places of a slice.
+-- A search for a slot from the first member on: after i members, the slot is i further on than in what is left. The members are the first n places of a slice.
 use mathlib.Core.Path.{_≡_}
 use mathlib.Core.Bool.{Bool, true, false, cond}
 use mathlib.Core.List.{List, [], _∷_}
@@ -7,7 +7,7 @@ use native.Mathlib.Numerals.{add-one}
 use native.Mathlib.Omega.{arith}
 use lib.ListN.{length, take, drop, getD, length-take}
 use lib.Seq.{drop-cons, drop-length, getD-take}
-use Rattle.status.specs.Status.{slot}
+use Rattle.lists.specs.Lists.{slot}
 
 -- a place of a member is below n
 below-count : (s : List ℕ) (n i : ℕ) → i < length (take n s) → i < n
