@@ -3,25 +3,9 @@ use events::EdgeType;
 use events::Event;
 use events::Link;
 use events::ResultTransition;
+use events::fresh_event;
 use events::pool::store_event;
 use numbers::Coordinate;
-
-// The end of an edge of which nothing is computed yet.
-pub fn end(point: Coordinate, left: bool, subject: bool, ring: u32, partner: u32) -> Event {
-    Event {
-        point,
-        left,
-        subject,
-        ring,
-        partner,
-        below: Link::None,
-        edge_type: EdgeType::Normal,
-        transition: ResultTransition::None,
-        in_out: false,
-        other_in_out: false,
-        contour: Link::None,
-    }
-}
 
 // A left end with what an earlier computation left.
 pub fn computed(
@@ -61,6 +45,8 @@ pub struct Edge {
 pub fn store(points: &mut [[f64; 2]], marks: &mut [[u32; 12]], i: u32, j: u32, e: Edge) {
     let from = e.from;
     let to = e.to;
-    store_event(points, marks, i, end(from, e.left, e.subject, e.ring, j));
-    store_event(points, marks, j, end(to, !e.left, e.subject, e.ring, i));
+    let first = fresh_event(from, e.left, e.subject, e.ring, j);
+    let second = fresh_event(to, !e.left, e.subject, e.ring, i);
+    store_event(points, marks, i, first);
+    store_event(points, marks, j, second);
 }

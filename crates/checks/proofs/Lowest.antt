@@ -9,7 +9,7 @@ use borrow.Author.Tests.{lt-ltb, le-ltb}
 use lib.ListN.{length, getD}
 use Rattle.checks.specs.declared.Check.the-variants.{Passed, Refused}
 use Rattle.checks.specs.Checks.{first, told}
-use Rattle.checks.specs.Loaded.{numbersFrom}
+use Rattle.checks.specs.Numbers.{numbersFrom}
 
 pub length-numbers : (i k : ℕ) → length (numbersFrom i k) ≡ k
 unfolding numbersFrom

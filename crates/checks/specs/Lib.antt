@@ -2,4 +2,4 @@
 pub mod Checks
 pub mod Sound
 pub mod OnPool
-pub mod Loaded
+pub mod Numbers

@@ -4,7 +4,7 @@ ghost use mathlib.Core.List.{[], _∷_};
 ghost use Rattle.events.specs.Binary64.{binary64};
 ghost use Rattle.events.specs.Pool.{pool, rowAt};
 ghost use Rattle.checks.specs.Checks.{checked};
-ghost use Rattle.checks.specs.Loaded.{numbersFrom};
+ghost use Rattle.checks.specs.Numbers.{numbersFrom};
 ghost use Rattle.checks.specs.OnPool.{checkedNamed, checkedLeftNamed};
 use crate::sizes::places;
 use refusals::Refusal;

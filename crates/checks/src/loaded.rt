@@ -2,7 +2,7 @@
 ghost use mathlib.Core.Path.{_≡_};
 ghost use Rattle.events.specs.Pool.{pool};
 ghost use Rattle.checks.specs.Checks.{first, told};
-ghost use Rattle.checks.specs.Loaded.{numbersFrom};
+ghost use Rattle.checks.specs.Numbers.{numbersFrom};
 ghost use Rattle.checks.specs.OnPool.{numberOf, strikes};
 use crate::Check;
 use crate::Fault;

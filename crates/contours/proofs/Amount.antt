@@ -9,9 +9,10 @@ use native.Mathlib.Omega.{arith}
 use borrow.Author.Tests.{eqb-true, ne-eqb}
 use lib.ListN.{length, getD, replicate, length-map}
 use lib.Dec.{eqb}
+use Rattle.checks.specs.Numbers.{numbersFrom}
+use Rattle.checks.proofs.Lowest.{length-numbers}
 use Rattle.contours.specs.Result.{keep}
 use Rattle.contours.specs.Table.{Row}
-use Rattle.contours.specs.Round.{up}
 use Rattle.contours.specs.Walk.{mark, marks, corners}
 use Rattle.contours.specs.Contours.{Contour, contour, trailAt, trace}
 use Rattle.contours.specs.Outline.{isParent, holesOf, outline, outlinesFrom, cornerCount, holeCount}
@@ -175,19 +176,14 @@ module _ (par : ℕ → Option ℕ) where
   holes-few c k [] = omega (arith, holes-nil c k)
   holes-few c k (j ∷ l) = omega (arith, holes-cons c k j l, one-owner c k (par j), holes-few c k l)
 
-length-up : (i k : ℕ) → length (up i k) ≡ k
-unfolding up
-length-up i zero = refl
-length-up i (suc k) = ap suc (length-up (suc i) k)
-
 module _ {P : Type 0} (same : P → P → Bool) (n : ℕ) (row : ℕ → Row P) (all : List Contour) where
   abbrev parentOf : ℕ → Option ℕ
   parentOf j = getD all j (contour [] none 0) .parent
 
-  holes-are : (l : List Contour) (c : ℕ) → holeCount (outlinesFrom same n row all c l) ≡ holesFrom parentOf c (length l) (up 0 (length all))
+  holes-are : (l : List Contour) (c : ℕ) → holeCount (outlinesFrom same n row all c l) ≡ holesFrom parentOf c (length l) (numbersFrom 0 (length all))
   unfolding outlinesFrom outline holeCount holesOf holesFrom
   holes-are [] c = refl
-  holes-are (k ∷ l) c = ap (λ (m : ℕ). length (keep (λ j. isParent c (parentOf j)) (up 0 (length all))) + m) (holes-are l (suc c))
+  holes-are (k ∷ l) c = ap (λ (m : ℕ). length (keep (λ j. isParent c (parentOf j)) (numbersFrom 0 (length all))) + m) (holes-are l (suc c))
 
   pub hole-count : holeCount (outlinesFrom same n row all 0 all) ≤ length all
-  hole-count = omega (arith, holes-are all 0, holes-few parentOf 0 (length all) (up 0 (length all)), length-up 0 (length all))
+  hole-count = omega (arith, holes-are all 0, holes-few parentOf 0 (length all) (numbersFrom 0 (length all)), length-numbers 0 (length all))

@@ -17,11 +17,12 @@ use Rattle.order.specs.Order.{byNumber, byEnd, byTurn, byLayer, before}
 use Rattle.order.proofs.Steps.{signFrom}
 use Rattle.order.proofs.Grid.{Spot, plus, minus, grid}
 use Rattle.checks.specs.Checks.{missized, outside, unpaired, alike, inOrder, misordered, notToLeft, misled, mistaken, unfitAt, andThen, sized}
+use Rattle.checks.specs.Numbers.{numbersFrom}
 use Rattle.order.specs.Keys.{keyOf}
 use Rattle.events.specs.Event.{hasTransition}
 use Rattle.contours.specs.Result.{keep, insert, sort, inResult, results, resultEdges, earlier, ordered}
 use Rattle.contours.specs.Table.{place, isOutIn, belowOf, rowOf, table, rowAt}
-use Rattle.contours.specs.Round.{up, down, isOpen, seek, rights, lefts, tries}
+use Rattle.contours.specs.Round.{down, isOpen, seek, rights, lefts, tries}
 use Rattle.contours.specs.Walk.{halt, onward, mark, marks, walk, corners}
 use Rattle.contours.specs.Contours.{hole, under, loose, owned, context, turn, make, turns, trace}
 use Rattle.contours.specs.Outline.{Outline, final, closes, isParent, holesOf, outline, outlinesFrom, outlines}
@@ -78,7 +79,7 @@ ample = record { points = 16; contours = 8; holes = 8 }
 
 -- all that an example computes with is named here, once
 run : List (Event Spot) → List ℕ → ℕ × ℕ × List Shown
-unfolding told shown ample events blank end spot connect accept listSized sized missized andThen toldLowest refusedAt lowest atMost unfitAt mistaken outside unpaired alike inOrder misordered notToLeft misled misplaced twice listed halfListed inResult hasTransition roomy roomFor results resultEdges keep ordered sort insert earlier keyOf key before byNumber byEnd byTurn byLayer grid same ahead plus minus signFrom table rowOf belowOf place isOutIn rowAt traced trace turns turn make context owned loose under hole walk onward halt seek isOpen tries rights lefts up down mark marks corners finished outcomeOf afterChecks outlines outlinesFrom outline holesOf isParent closes final
+unfolding told shown ample events blank end spot connect accept listSized sized missized andThen toldLowest refusedAt lowest atMost unfitAt mistaken outside unpaired alike inOrder misordered notToLeft misled misplaced twice listed halfListed inResult hasTransition roomy roomFor results resultEdges keep ordered sort insert earlier keyOf key before byNumber byEnd byTurn byLayer grid same ahead plus minus signFrom table rowOf belowOf place isOutIn rowAt traced trace turns turn make context owned loose under hole walk onward halt seek isOpen tries rights lefts numbersFrom down mark marks corners finished outcomeOf afterChecks outlines outlinesFrom outline holesOf isParent closes final
 run s list = told (connect grid events s (length s) (length s) list ample)
 
 -- ---- two squares, 0..1 and 1..2, that touch at (1,1): two contours of five points, starting (0,0) and (1,1)
@@ -108,7 +109,7 @@ round-square a =
       unclosed = false;
     }
 
-touching : run (square 0 0 ++ square 8 1) (up 0 16) ≡ (0, 0, round-square 0 ∷ round-square 1 ∷ [])
+touching : run (square 0 0 ++ square 8 1) (numbersFrom 0 16) ≡ (0, 0, round-square 0 ∷ round-square 1 ∷ [])
 unfolding run square round-square
 touching = refl
 
@@ -174,7 +175,7 @@ nested : run (
     ∷ end (spot 2 2) false 12 None OutIn
     ∷ end (spot 1 1) true 15 (To 8) OutIn
     ∷ end (spot 1 2) false 14 None OutIn
-    ∷ []) (up 0 16)
+    ∷ []) (numbersFrom 0 16)
     ≡ (
       0,
       0,
@@ -195,7 +196,7 @@ lined : ℕ → ℕ → Option ℕ → ℕ → List ℕ → Shown
 unfolding spot
 lined x y p d hs = record { corners = spot x y ∷ spot (x + 1) y ∷ []; parent = p; depth = d; holes = hs; unclosed = true }
 
-contexts : run (line 0 0 0 None OutIn ++ line 2 1 1 (To 0) OutIn ++ line 4 2 2 (To 2) InOut ++ line 6 3 3 (To 4) OutIn ++ line 8 4 4 (To 10) OutIn ++ line 10 5 5 None InOut) (up 0 10)
+contexts : run (line 0 0 0 None OutIn ++ line 2 1 1 (To 0) OutIn ++ line 4 2 2 (To 2) InOut ++ line 6 3 3 (To 4) OutIn ++ line 8 4 4 (To 10) OutIn ++ line 10 5 5 None InOut) (numbersFrom 0 10)
     ≡ (0, 0, lined 0 0 none 0 (1 ∷ 2 ∷ []) ∷ lined 1 1 (some 0) 1 [] ∷ lined 2 2 (some 0) 1 [] ∷ lined 3 3 none 1 [] ∷ lined 4 4 none 0 [] ∷ [])
 unfolding run line lined
 contexts = refl

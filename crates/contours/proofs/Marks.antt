@@ -10,8 +10,9 @@ use native.Mathlib.Omega.{arith}
 use native.Mathlib.Decide.{ℕ-discrete}
 use lib.ListN.{length, getD, set, replicate}
 use lib.Dec.{eqb, eqb·suc-suc, eqb·zero-suc, eqb·suc-zero}
+use Rattle.checks.specs.Numbers.{numbersFrom}
 use Rattle.contours.specs.Result.{keep}
-use Rattle.contours.specs.Round.{up, down, isOpen, seek}
+use Rattle.contours.specs.Round.{down, isOpen, seek}
 
 unfoldable pub bit : Bool → ℕ
 bit true = 1
@@ -65,12 +66,12 @@ module _ (f : ℕ → Bool) where
       go (suc m) t i = omega arith
 
   -- where nothing is walked
-  pub open-all : (b k : ℕ) → openFrom f b (replicate k 0) ≡ length (keep f (up b k))
-  unfolding openFrom weight bit keep up
+  pub open-all : (b k : ℕ) → openFrom f b (replicate k 0) ≡ length (keep f (numbersFrom b k))
+  unfolding openFrom weight bit keep numbersFrom
   open-all b zero = refl
   open-all b (suc k) = go (f b) (open-all (suc b) k)
     where
-      go : (t : Bool) → openFrom f (suc b) (replicate k 0) ≡ length (keep f (up (suc b) k)) → bit t + openFrom f (suc b) (replicate k 0) ≡ length (cond t (b ∷ keep f (up (suc b) k)) (keep f (up (suc b) k)))
+      go : (t : Bool) → openFrom f (suc b) (replicate k 0) ≡ length (keep f (numbersFrom (suc b) k)) → bit t + openFrom f (suc b) (replicate k 0) ≡ length (cond t (b ∷ keep f (numbersFrom (suc b) k)) (keep f (numbersFrom (suc b) k)))
       go true i = omega arith
       go false i = omega arith
 
@@ -136,21 +137,21 @@ seek-none ms (i ∷ l) e j m = go (isOpen (getD ms i 1)) refl e (List·Memᴰ·c
 
 -- ---- runs of positions
 
-pub up-in : (i k j : ℕ) → i ≤ j → j < i + k → List·Memᴰ j (up i k)
-unfolding up
+pub up-in : (i k j : ℕ) → i ≤ j → j < i + k → List·Memᴰ j (numbersFrom i k)
+unfolding numbersFrom
 up-in i zero j h l = absurd (omega arith)
 up-in i (suc k) j h l = go (ℕ-discrete j i) (up-in (suc i) k j)
   where
-    go : Dec (j ≡ i) → (suc i ≤ j → j < suc i + k → List·Memᴰ j (up (suc i) k)) → List·Memᴰ j (i ∷ up (suc i) k)
+    go : Dec (j ≡ i) → (suc i ≤ j → j < suc i + k → List·Memᴰ j (numbersFrom (suc i) k)) → List·Memᴰ j (i ∷ numbersFrom (suc i) k)
     go (yes s) r = List·Memᴰ·head s
     go (no s) r = List·Memᴰ·tail (r (omega arith) (omega arith))
 
-pub up-out : (i k j : ℕ) → List·Memᴰ j (up i k) → j < i + k
-unfolding up
+pub up-out : (i k j : ℕ) → List·Memᴰ j (numbersFrom i k) → j < i + k
+unfolding numbersFrom
 up-out i zero j m = absurd (List·Memᴰ·not-nil m)
 up-out i (suc k) j m = go (List·Memᴰ·cases-cons m) (up-out (suc i) k j)
   where
-    go : (j ≡ i) ⊎ List·Memᴰ j (up (suc i) k) → (List·Memᴰ j (up (suc i) k) → j < suc i + k) → j < i + suc k
+    go : (j ≡ i) ⊎ List·Memᴰ j (numbersFrom (suc i) k) → (List·Memᴰ j (numbersFrom (suc i) k) → j < suc i + k) → j < i + suc k
     go (inl s) r = omega arith
     go (inr m) r = omega (arith, r m)
 

@@ -5,9 +5,9 @@ use mathlib.Core.List.{List, [], _∷_}
 use Prim.Native.Nat.{ℕ, suc, _+_}
 use lib.ListN.{length, getD}
 use lib.Dec.{eqb}
+use Rattle.checks.specs.Numbers.{numbersFrom}
 use Rattle.contours.specs.Result.{keep}
 use Rattle.contours.specs.Table.{Row}
-use Rattle.contours.specs.Round.{up}
 use Rattle.contours.specs.Walk.{corners}
 use Rattle.contours.specs.Contours.{Contour, contour}
 
@@ -38,7 +38,7 @@ isParent c none = false
 isParent c (some p) = eqb p c
 
 unfoldable pub holesOf : List Contour → ℕ → List ℕ
-holesOf cs c = keep (λ j. isParent c (getD cs j (contour [] none 0) .parent)) (up 0 (length cs))
+holesOf cs c = keep (λ j. isParent c (getD cs j (contour [] none 0) .parent)) (numbersFrom 0 (length cs))
 
 module _ {P : Type 0} (same : P → P → Bool) (n : ℕ) (row : ℕ → Row P) where
   unfoldable pub outline : List Contour → ℕ → Contour → Outline P

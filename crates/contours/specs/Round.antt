@@ -5,14 +5,11 @@ use mathlib.Core.Option.{Option, none, some}
 use mathlib.Core.List.{List, [], _∷_, _++_}
 use Prim.Native.Nat.{ℕ, zero, suc, _+_, _-_}
 use lib.ListN.{getD}
+use Rattle.checks.specs.Numbers.{numbersFrom}
 use Rattle.contours.specs.Result.{keep}
 use Rattle.contours.specs.Table.{Row}
 
--- k positions from i on, upwards; and downwards to i
-unfoldable pub up : ℕ → ℕ → List ℕ
-up i zero = []
-up i (suc k) = i ∷ up (suc i) k
-
+-- k positions downwards to i; upwards from i they are `numbersFrom i k`
 unfoldable pub down : ℕ → ℕ → List ℕ
 down i zero = []
 down i (suc k) = (i + k) ∷ down i k
@@ -30,7 +27,7 @@ seek ms (i ∷ l) = cond (isOpen (getD ms i 1)) (some i) (seek ms l)
 module _ {P : Type 0} (same : P → P → Bool) (n : ℕ) (row : ℕ → Row P) where
   -- the right ends at p among k positions from i on, upwards; the left ends, downwards
   unfoldable pub rights : P → ℕ → ℕ → List ℕ
-  rights p i k = keep (λ j. same p (row j .point) && not (row j .left)) (up i k)
+  rights p i k = keep (λ j. same p (row j .point) && not (row j .left)) (numbersFrom i k)
 
   unfoldable pub lefts : P → ℕ → ℕ → List ℕ
   lefts p i k = keep (λ j. same p (row j .point) && row j .left) (down i k)

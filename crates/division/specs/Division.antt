@@ -7,11 +7,8 @@
 use mathlib.Core.Bool.{Bool, true, false, not, _&&_, _||_, cond}
 use Prim.Native.Nat.{ℕ, _+_, min}
 use lib.Dec.{leb}
-use Rattle.events.specs.declared.EdgeType.the-variants.{Normal}
-use Rattle.events.specs.declared.ResultTransition.the-variants.{None as NoTransition}
-use Rattle.events.specs.declared.Link.the-variants.{None}
 use Rattle.events.specs.Coordinates.{Coordinates, same}
-use Rattle.events.specs.Event.{Event, key}
+use Rattle.events.specs.Event.{Event, fresh, key}
 use Rattle.events.specs.Store.{Store, look}
 use Rattle.order.specs.Order.{before}
 use Rattle.division.specs.declared.Division.{Division}
@@ -37,20 +34,7 @@ module _ {P : Type 0} (C : Coordinates P) where
 module _ {P : Type 0} where
   -- a new end of the edge of e
   unfoldable pub newEnd : Event P → P → Bool → ℕ → Event P
-  newEnd e p left partner =
-      record {
-        point = p;
-        left = left;
-        subject = e .subject;
-        ring = e .ring;
-        partner = partner;
-        below = None;
-        edgeType = Normal;
-        transition = NoTransition;
-        inOut = false;
-        otherInOut = false;
-        contour = None;
-      }
+  newEnd e p left partner = fresh p left (e .subject) (e .ring) partner
 
   -- e with another partner and another flag
   unfoldable pub linked : Event P → ℕ → Bool → Event P

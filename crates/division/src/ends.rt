@@ -6,10 +6,8 @@ ghost use Rattle.events.specs.Event.{shown};
 ghost use Rattle.division.specs.Struct as Struct;
 ghost use Rattle.division.specs.Division as Spec;
 ghost use Rattle.division.specs.Division.{newEnd};
-use events::EdgeType;
 use events::Event;
-use events::Link;
-use events::ResultTransition;
+use events::fresh_event;
 use numbers::Coordinate;
 use order::before;
 use order::key_of;
@@ -18,19 +16,7 @@ use order::key_of;
 pub fn new_end(e: Event, point: Coordinate, left: bool, partner: u32) -> Event
     ensures { λ r. ⌜ shown r ≡ newEnd (shown e) point left partner ⌝ }
 {
-    Event {
-        point: point,
-        left: left,
-        subject: e.subject,
-        ring: e.ring,
-        partner: partner,
-        below: Link::None,
-        edge_type: EdgeType::Normal,
-        transition: ResultTransition::None,
-        in_out: false,
-        other_in_out: false,
-        contour: Link::None,
-    }
+    fresh_event(point, left, e.subject, e.ring, partner)
 }
 
 // The end that is lent gets its new partner, and its flag; nothing else of it moves.

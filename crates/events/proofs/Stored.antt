@@ -20,7 +20,7 @@ use Rattle.events.specs.Event.{Event}
 use Rattle.events.specs.Store.{Store}
 use Rattle.events.specs.Pool.{Pool, size, flagNumber, linkOf, thereNumber, linkNumber, edgeTypeOf, edgeTypeNumber, transitionOf, transitionNumber, eventOf, pointOf, marksOf, rowAt, store, stored}
 
-flag : (b : Bool) → eqb (flagNumber b) 1 ≡ b
+pub flag : (b : Bool) → eqb (flagNumber b) 1 ≡ b
 unfolding flagNumber
 flag true = refl
 flag false = refl

@@ -3,9 +3,11 @@ use mathlib.Core.Bool.{Bool, true, false}
 use Prim.Native.Nat.{ℕ}
 use Rattle.numbers.specs.declared.Coordinate.{Coordinate}
 use Rattle.events.specs.declared.EdgeType.{EdgeType}
+use Rattle.events.specs.declared.EdgeType.the-variants.{Normal}
 use Rattle.events.specs.declared.ResultTransition.{ResultTransition}
 use Rattle.events.specs.declared.ResultTransition.the-variants.{None, InOut, OutIn}
 use Rattle.events.specs.declared.Link.{Link}
+use Rattle.events.specs.declared.Link.the-variants.{None as NoLink}
 use Rattle.events.specs.declared.Event as D
 
 -- one end of an edge
@@ -21,6 +23,23 @@ pub record Event (P : Type 0) : Type 0 where
   pub inOut : Bool
   pub otherInOut : Bool
   pub contour : Link
+
+-- an end that nothing is known of yet
+abbrev pub fresh : {P : Type 0} → P → (left subject : Bool) → (ring partner : ℕ) → Event P
+fresh p left subject ring partner =
+    record {
+      point = p;
+      left = left;
+      subject = subject;
+      ring = ring;
+      partner = partner;
+      below = NoLink;
+      edgeType = Normal;
+      transition = None;
+      inOut = false;
+      otherInOut = false;
+      contour = NoLink;
+    }
 
 -- a left end with this transition is in the result
 unfoldable pub hasTransition : ResultTransition → Bool

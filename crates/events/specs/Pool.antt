@@ -14,7 +14,7 @@ use Rattle.events.specs.declared.ResultTransition.{ResultTransition}
 use Rattle.events.specs.declared.ResultTransition.the-variants.{None as NoTransition, InOut, OutIn}
 use Rattle.events.specs.declared.Link.{Link}
 use Rattle.events.specs.declared.Link.the-variants.{None, To}
-use Rattle.events.specs.Event.{Event}
+use Rattle.events.specs.Event.{Event, fresh}
 use Rattle.events.specs.Store.{Store}
 
 pub record Pool : Type 0 where
@@ -100,20 +100,7 @@ marksOf e =
 
 -- what is read outside the pool: its own partner, so that it means the same under every numbering
 unfoldable pub blank : ℕ → Event Coordinate
-blank i =
-    record {
-      point = record { x = B.zero; y = B.zero };
-      left = false;
-      subject = false;
-      ring = 0;
-      partner = i;
-      below = None;
-      edgeType = Normal;
-      transition = NoTransition;
-      inOut = false;
-      otherInOut = false;
-      contour = None;
-    }
+blank i = fresh (record { x = B.zero; y = B.zero }) false false 0 i
 
 -- ---- reading and storing by number
 

@@ -1,4 +1,7 @@
 // The event record (`sweep_event.rs`).
+ghost use mathlib.Core.Path.{_≡_};
+ghost use Rattle.events.specs.Event.{shown, fresh};
+
 pub mod points;
 pub mod pool;
 
@@ -39,4 +42,23 @@ pub struct Event {
     pub other_in_out: bool,
     // The contour that the edge is walked in (`output_contour_id`).
     pub contour: Link,
+}
+
+// An end that nothing is known of yet.
+pub fn fresh_event(point: Coordinate, left: bool, subject: bool, ring: u32, partner: u32) -> Event
+    ensures { λ r. ⌜ shown r ≡ fresh point left subject ring partner ⌝ }
+{
+    Event {
+        point: point,
+        left: left,
+        subject: subject,
+        ring: ring,
+        partner: partner,
+        below: Link::None,
+        edge_type: EdgeType::Normal,
+        transition: ResultTransition::None,
+        in_out: false,
+        other_in_out: false,
+        contour: Link::None,
+    }
 }

@@ -9,9 +9,11 @@ use crate::EdgeType;
 use crate::Event;
 use crate::Link;
 use crate::ResultTransition;
+use crate::fresh_event;
 use numbers::Coordinate;
 
-fn number_of_flag(b: bool) -> u32
+// A flag as a number.
+pub fn number_of_flag(b: bool) -> u32
     ensures { λ r. ⌜ r ≡ flagNumber b ⌝ }
 {
     if b { 1 } else { 0 }
@@ -107,19 +109,7 @@ pub fn event_of(p: [f64; 2], m: [u32; 12]) -> Event
 fn blank_event(i: u32) -> Event
     ensures { λ r. ⌜ shown r ≡ blank i ⌝ }
 {
-    Event {
-        point: Coordinate { x: 0.0, y: 0.0 },
-        left: false,
-        subject: false,
-        ring: 0,
-        partner: i,
-        below: Link::None,
-        edge_type: EdgeType::Normal,
-        transition: ResultTransition::None,
-        in_out: false,
-        other_in_out: false,
-        contour: Link::None,
-    }
+    fresh_event(Coordinate { x: 0.0, y: 0.0 }, false, false, 0, i)
 }
 
 pub fn read_event(points: &[[f64; 2]], marks: &[[u32; 12]], i: u32) -> Event

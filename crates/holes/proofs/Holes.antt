@@ -11,8 +11,8 @@ use lib.ListN.{length, getD, set, length-append, List·getD-eq-default}
 use lib.Seq.{sets}
 use lib.Dec.{eqb}
 use Rattle.checks.specs.Checks.{maxEvents}
+use Rattle.checks.specs.Numbers.{numbersFrom}
 use Rattle.contours.specs.Result.{keep}
-use Rattle.contours.specs.Round.{up}
 use Rattle.rows.proofs.Lists.{getD-any, sets-append}
 use Rattle.holes.specs.Holes.{nestIn, Held, holding, holesAt, contourRow, contourRows, allHoles, heldFrom, holedOn, holdOne, Pile, pile, piled, addHole}
 
@@ -41,11 +41,11 @@ piles a b = rw (a, b)
 module _ (ns : List (List ℕ)) (c : ℕ) where
   -- with one more contour in front
   pile-more : (m j : ℕ) (hs : List ℕ) (e : ℕ) (p : Pile) → p ≡ addHole ns c hs e j → piled (p .holes) (p .end) (holesAt ns c m (suc j)) ≡ piled hs e (holesAt ns c (suc m) j)
-  unfolding addHole piled holesAt keep up
+  unfolding addHole piled holesAt keep numbersFrom
   pile-more m j hs e p q = rw q (go (eqb (getD (nestIn ns j) 2 0) (c + 1)))
     where
       rest : List ℕ
-      rest = keep (λ i. eqb (getD (nestIn ns i) 2 0) (c + 1)) (up (suc j) m)
+      rest = keep (λ i. eqb (getD (nestIn ns i) 2 0) (c + 1)) (numbersFrom (suc j) m)
 
       go : (b : Bool) → piled (cond b (pile (set hs e j) (e + 1)) (pile hs e) .holes) (cond b (pile (set hs e j) (e + 1)) (pile hs e) .end) rest ≡ piled hs e (cond b (j ∷ rest) rest)
       go true = piles (ap (λ (n : ℕ). sets (set hs e j) n rest) (add-one e)) (omega arith)
@@ -58,7 +58,7 @@ module _ (ns : List (List ℕ)) (c : ℕ) where
       ap (λ (i : ℕ). piled hs′ e′ (holesAt ns c (n - (j + 1)) i)) (add-one j) ∙ pile-more (n - (j + 1)) j hs e (pile hs′ e′) q ∙ u
 
   pub pile-end : (n j : ℕ) (hs : List ℕ) (e : ℕ) (w : Pile) → n ≤ j → piled hs e (holesAt ns c (n - j) j) ≡ w → pile hs e ≡ w
-  unfolding piled holesAt keep up
+  unfolding piled holesAt keep numbersFrom
   pile-end n j hs e w h v = let d : n - j ≡ 0 = omega arith in let u : pile hs (e + 0) ≡ w = rw d at v in rw add-zero at u
 
   -- one more at most
@@ -71,12 +71,12 @@ module _ (ns : List (List ℕ)) (c : ℕ) where
       go false = omega arith
 
   pub holes-few : (m j : ℕ) → length (holesAt ns c m j) ≤ m
-  unfolding holesAt keep up
+  unfolding holesAt keep numbersFrom
   holes-few zero j = omega arith
   holes-few (suc m) j = go (eqb (getD (nestIn ns j) 2 0) (c + 1)) (holes-few m (suc j))
     where
       rest : List ℕ
-      rest = keep (λ i. eqb (getD (nestIn ns i) 2 0) (c + 1)) (up (suc j) m)
+      rest = keep (λ i. eqb (getD (nestIn ns i) 2 0) (c + 1)) (numbersFrom (suc j) m)
 
       go : (b : Bool) → length rest ≤ m → length (cond b (j ∷ rest) rest) ≤ suc m
       go true h = omega arith

@@ -7,8 +7,8 @@ use lib.ListN.{length, getD, set}
 use lib.Dec.{eqb, leb}
 use lib.Seq.{sets}
 use Rattle.checks.specs.Checks.{maxEvents}
+use Rattle.checks.specs.Numbers.{numbersFrom}
 use Rattle.contours.specs.Result.{keep}
-use Rattle.contours.specs.Round.{up}
 
 unfoldable pub nestIn : List (List ℕ) → ℕ → List ℕ
 nestIn ns j = getD ns j (0 ∷ 0 ∷ 0 ∷ 0 ∷ [])
@@ -25,7 +25,7 @@ holding k h e = record { contours = k; holes = h; end = e }
 module _ (ns : List (List ℕ)) where
   -- the holes of contour c among m contours from j on
   unfoldable pub holesAt : ℕ → ℕ → ℕ → List ℕ
-  holesAt c m j = keep (λ i. eqb (getD (nestIn ns i) 2 0) (c + 1)) (up j m)
+  holesAt c m j = keep (λ i. eqb (getD (nestIn ns i) 2 0) (c + 1)) (numbersFrom j m)
 
   -- of n contours: contour c whole, whose first hole is at e
   unfoldable pub contourRow : ℕ → ℕ → ℕ → List ℕ

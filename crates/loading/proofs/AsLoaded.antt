@@ -21,7 +21,7 @@ use Rattle.order.proofs.AtBinary64.{laws, fine}
 use Rattle.checks.specs.declared.Check.{Check}
 use Rattle.checks.specs.declared.Check.the-variants.{Passed, Refused}
 use Rattle.checks.specs.Checks.{inOrder, checked}
-use Rattle.checks.specs.Loaded.{numbersFrom}
+use Rattle.checks.specs.Numbers.{numbersFrom}
 use Rattle.checks.specs.Sound.{Sound}
 use Rattle.checks.proofs.Told.{both-passed}
 use Rattle.checks.proofs.Unstruck.{neither}

@@ -1,12 +1,9 @@
 -- Loading (01: edge i becomes events 2i, its first end, and 2i+1; the end earlier by x, then y, is left), over any kind of coordinate and any store.
-use mathlib.Core.Bool.{Bool, false, not, cond, _||_}
+use mathlib.Core.Bool.{Bool, not, cond, _||_}
 use mathlib.Core.List.{List, [], _∷_}
 use Prim.Native.Nat.{ℕ, suc, _+_, _*_}
-use Rattle.events.specs.declared.EdgeType.the-variants.{Normal}
-use Rattle.events.specs.declared.ResultTransition.the-variants.{None as NoTransition}
-use Rattle.events.specs.declared.Link.the-variants.{None}
 use Rattle.events.specs.Coordinates.{Coordinates, same, ahead}
-use Rattle.events.specs.Event.{Event}
+use Rattle.events.specs.Event.{Event, fresh}
 use Rattle.events.specs.Store.{Store}
 use Rattle.checks.specs.declared.Check.{Check}
 use Rattle.checks.specs.declared.Check.the-variants.{Passed, Refused}
@@ -23,20 +20,7 @@ pub record Edge (P : Type 0) : Type 0 where
 module _ {P : Type 0} where
   -- an end of the edge e
   unfoldable pub end : Edge P → P → Bool → ℕ → Event P
-  end e p left partner =
-      record {
-        point = p;
-        left = left;
-        subject = e .subject;
-        ring = e .ring;
-        partner = partner;
-        below = None;
-        edgeType = Normal;
-        transition = NoTransition;
-        inOut = false;
-        otherInOut = false;
-        contour = None;
-      }
+  end e p left partner = fresh p left (e .subject) (e .ring) partner
 
   module _ (C : Coordinates P) where
     -- the first end of edge i, and the second

@@ -12,10 +12,8 @@ use crate::edge::Edge;
 use crate::edge::edge_count;
 use crate::edge::read_edge;
 use checks::records::is_ahead;
-use events::EdgeType;
 use events::Event;
-use events::Link;
-use events::ResultTransition;
+use events::fresh_event;
 use events::pool::store_event;
 use numbers::Coordinate;
 
@@ -23,19 +21,7 @@ use numbers::Coordinate;
 fn end(e: Edge, p: Coordinate, left: bool, partner: u32) -> Event
     ensures { λ r. ⌜ shown r ≡ Loading.end (shownEdge e) p left partner ⌝ }
 {
-    Event {
-        point: p,
-        left: left,
-        subject: e.subject,
-        ring: e.ring,
-        partner: partner,
-        below: Link::None,
-        edge_type: EdgeType::Normal,
-        transition: ResultTransition::None,
-        in_out: false,
-        other_in_out: false,
-        contour: Link::None,
-    }
+    fresh_event(p, left, e.subject, e.ring, partner)
 }
 
 fn load_edge(points: &mut [[f64; 2]], marks: &mut [[u32; 12]], i: u32, e: Edge)

@@ -4,16 +4,17 @@ use mathlib.Core.Path.{_≡_, refl, sym, ap, _∙_}
 use mathlib.Core.Bool.{cond}
 use mathlib.Core.List.{List, [], map}
 use native.Mathlib.Numerals.{sub-one}
-use native.Mathlib.Nat.{le-of-suc-le-suc, not-suc-le-zero}
 use native.Mathlib.Omega.{arith}
 use native.Mathlib.Decide.{ℕ-discrete}
 use lib.Dec.{eqb}
-use lib.ListN.{length, getD, take, drop, set, length-set, drop-of-length-le}
+use lib.ListN.{length, getD, take, drop, set, length-set, length-map, drop-of-length-le}
 use lib.Seq.{drop-cons, getD-take, length-take-le, getD-set-same, getD-set-other, ext-getD}
 use borrow.Author.Tests.{eq-eqb, ne-eqb, lt-ltb, le-ltb}
 use Rattle.checks.specs.Checks.{maxEvents}
+use Rattle.checks.specs.Numbers.{numbersFrom}
+use Rattle.checks.proofs.Lowest.{length-numbers, number-at}
 use Rattle.contours.specs.Table.{place}
-use Rattle.contours.specs.Round.{up}
+use Rattle.contours.proofs.Lists.{getD-map}
 use Rattle.positions.specs.Positions.{placesIn, placeAll}
 use Rattle.positions.specs.Steps.{Placed}
 
@@ -65,16 +66,11 @@ placed-done s q q₁ q′ (suc k) n h a p = absurd (omega arith)
 
 -- ---- as a list
 
-pub length-each : {A : Type 0} (f : ℕ → A) (i k : ℕ) → length (map f (up i k)) ≡ k
-unfolding up
-length-each f i zero = refl
-length-each f i (suc k) = ap suc (length-each f (suc i) k)
+pub length-each : {A : Type 0} (f : ℕ → A) (i k : ℕ) → length (map f (numbersFrom i k)) ≡ k
+length-each f i k = length-map (numbersFrom i k) f ∙ length-numbers i k
 
-pub getD-each : {A : Type 0} (f : ℕ → A) (i k r : ℕ) (d : A) → r < k → getD (map f (up i k)) r d ≡ f (i + r)
-unfolding up
-getD-each f i zero r d h = absurd (not-suc-le-zero h)
-getD-each f i (suc k) zero d h = ap f (omega arith)
-getD-each f i (suc k) (suc r) d h = getD-each f (suc i) k r d (le-of-suc-le-suc h) ∙ ap f (omega arith)
+pub getD-each : {A : Type 0} (f : ℕ → A) (i k r : ℕ) (d : A) → r < k → getD (map f (numbersFrom i k)) r d ≡ f (i + r)
+getD-each f i k r d h = getD-map f (numbersFrom i k) r d 0 (rw (length-numbers i k) h) ∙ ap f (number-at i k r h)
 
 place-from : (s : List ℕ) (r : ℕ) → 0 + place s r ≡ place s (0 + r)
 place-from s r = let e : 0 + r ≡ r = omega arith in rw e (omega arith)
@@ -82,7 +78,7 @@ place-from s r = let e : 0 + r ≡ r = omega arith in rw e (omega arith)
 pub placed-is : (s q q′ : List ℕ) → Placed s 0 q q′ → q′ ≡ placesIn s (length q)
 unfolding placesIn
 placed-is s q q′ p =
-    ext-getD 0 q′ (map (place s) (up 0 (length q))) (p .size ∙ sym (length-each (place s) 0 (length q)))
+    ext-getD 0 q′ (map (place s) (numbersFrom 0 (length q))) (p .size ∙ sym (length-each (place s) 0 (length q)))
     (λ r h. let g : r < length q = omega (arith, h, p .size) in p .each r g ∙ place-from s r ∙ sym (getD-each (place s) 0 (length q) r 0 g))
 
 -- ---- an order that fits, or does not

@@ -12,9 +12,9 @@ use Rattle.events.specs.Binary64.{binary64}
 use Rattle.numbers.specs.declared.Coordinate.{Coordinate}
 use Rattle.events.specs.Event.{Event, hasTransition}
 use Rattle.events.specs.Pool.{Pool, rowAt, blank}
+use Rattle.checks.specs.Numbers.{numbersFrom}
 use Rattle.contours.specs.Result.{insert, inResult, results, earlier, ordered}
 use Rattle.contours.specs.Table.{place}
-use Rattle.contours.specs.Round.{up}
 use Rattle.contours.proofs.Lists.{All, all-of, all-perm, all-mem, keep-out}
 use Rattle.contours.proofs.Sort.{sort-is}
 use Rattle.positions.specs.Positions.{orderedIn, placesIn, placeIn}
@@ -79,7 +79,7 @@ place-read : (s : List ℕ) (k r : ℕ) → (k ≤ r → place s r ≡ length s)
 unfolding placeIn placesIn
 place-read s k r out = rw (length-each (place s) 0 k) (go (ltb r k) refl)
   where
-    go : (t : Bool) → ltb r k ≡ t → cond t (getD (map (place s) (up 0 k)) r 0) (length s) ≡ place s r
+    go : (t : Bool) → ltb r k ≡ t → cond t (getD (map (place s) (numbersFrom 0 k)) r 0) (length s) ≡ place s r
     go true e = getD-each (place s) 0 k r 0 (ltb-true r k e) ∙ ap (place s) (omega arith)
     go false e = sym (out (ltb-false r k e))
 

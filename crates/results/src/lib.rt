@@ -1,10 +1,11 @@
 // Which records of a pool are in the result, and how many of a list are.
 ghost use mathlib.Core.Path.{_≡_};
 ghost use lib.ListN.{length};
-ghost use Rattle.events.specs.Pool.{pool, rowAt, flagNumber};
+ghost use Rattle.events.specs.Pool.{pool, rowAt};
 ghost use Rattle.contours.specs.Result.{inResult, results, resultEdges};
 ghost use Rattle.results.specs.Edge.{isEdge};
 use class::is_in_result;
+use events::pool::number_of_flag;
 use events::pool::read_event;
 
 // The edge of a record is in the result: its left end is.
@@ -30,12 +31,6 @@ pub fn is_edge(points: &[[f64; 2]], marks: &[[u32; 12]], r: u32) -> bool
     false
 }
 
-fn one_if(b: bool) -> usize
-    ensures { λ n. ⌜ n ≡ flagNumber b ⌝ }
-{
-    if b { 1 } else { 0 }
-}
-
 // The result events of a list.
 pub fn count_events(points: &[[f64; 2]], marks: &[[u32; 12]], list: &[u32]) -> usize
     ensures { λ n. ⌜ n ≡ length (results (rowAt (pool (now (points .entry)) (now (marks .entry)))) (now (list .entry))) ⌝ }
@@ -43,7 +38,7 @@ pub fn count_events(points: &[[f64; 2]], marks: &[[u32; 12]], list: &[u32]) -> u
     let mut count = 0;
     let mut i = 0;
     while i < list.len() {
-        count += one_if(in_result(points, marks, list[i]));
+        count += number_of_flag(in_result(points, marks, list[i])) as usize;
         i += 1;
     }
     count
@@ -56,7 +51,7 @@ pub fn count_edges(points: &[[f64; 2]], marks: &[[u32; 12]], list: &[u32]) -> us
     let mut count = 0;
     let mut i = 0;
     while i < list.len() {
-        count += one_if(is_edge(points, marks, list[i]));
+        count += number_of_flag(is_edge(points, marks, list[i])) as usize;
         i += 1;
     }
     count

@@ -14,8 +14,9 @@ use Rattle.events.specs.Coordinates.{same, ahead}
 use Rattle.events.specs.Binary64.{binary64}
 use Rattle.order.proofs.AtBinary64.{Fine, fine, laws}
 use Rattle.order.proofs.Laws.{ahead-apart, ahead-ext, ahead-trans}
+use Rattle.checks.specs.Numbers.{numbersFrom}
 use Rattle.contours.specs.Result.{keep}
-use Rattle.contours.specs.Round.{up, down, rights, lefts, tries}
+use Rattle.contours.specs.Round.{down, rights, lefts, tries}
 use Rattle.rows.specs.Rows.{Rows, size, pointIn, pointAt, endAt, tableRow, rowOf}
 use Rattle.round.specs.Block.{blockStart, blockEnd, stands, inOrder}
 use Rattle.round.specs.Round.{rightEnds, leftEnds, triesIn, around, tried}
@@ -27,21 +28,21 @@ module _ (f : ℕ → Bool) where
   abbrev Fails : ℕ → ℕ → Type 0
   Fails i e = (j : ℕ) → i ≤ j → j < e → f j ≡ false
 
-  up-none : (i k : ℕ) → Fails i (i + k) → keep f (up i k) ≡ []
-  unfolding keep up
+  up-none : (i k : ℕ) → Fails i (i + k) → keep f (numbersFrom i k) ≡ []
+  unfolding keep numbersFrom
   up-none i zero h = refl
   up-none i (suc k) h = rw (h i (omega arith) (omega arith)) (up-none (suc i) k (λ j a b. h j (omega arith) (omega arith)))
 
-  up-late : (i a b : ℕ) → Fails i (i + a) → keep f (up i (a + b)) ≡ keep f (up (i + a) b)
-  unfolding keep up
+  up-late : (i a b : ℕ) → Fails i (i + a) → keep f (numbersFrom i (a + b)) ≡ keep f (numbersFrom (i + a) b)
+  unfolding keep numbersFrom
   up-late i zero b h = rw (zero-add, add-zero)
   up-late i (suc a) b h =
       let n : suc a + b ≡ suc (a + b) = omega arith in
       let m : suc i + a ≡ i + suc a = omega arith in
-      rw (n, h i (omega arith) (omega arith)) (up-late (suc i) a b (λ j u v. h j (omega arith) (omega arith)) ∙ ap (λ (k : ℕ). keep f (up k b)) m)
+      rw (n, h i (omega arith) (omega arith)) (up-late (suc i) a b (λ j u v. h j (omega arith) (omega arith)) ∙ ap (λ (k : ℕ). keep f (numbersFrom k b)) m)
 
-  up-early : (i a b : ℕ) → Fails (i + a) (i + a + b) → keep f (up i (a + b)) ≡ keep f (up i a)
-  unfolding keep up
+  up-early : (i a b : ℕ) → Fails (i + a) (i + a + b) → keep f (numbersFrom i (a + b)) ≡ keep f (numbersFrom i a)
+  unfolding keep numbersFrom
   up-early i zero b h = rw zero-add (up-none i b (λ j u v. h j (omega arith) (omega arith)))
   up-early i (suc a) b h =
       let n : suc a + b ≡ suc (a + b) = omega arith in
@@ -75,7 +76,7 @@ module _ (f : ℕ → Bool) where
     above : Fails (lo + (hi - lo)) (lo + (hi - lo) + (e - hi))
     above j x y = v j (omega arith) (omega arith)
 
-    pub up-window : keep f (up i (e - i)) ≡ keep f (up lo (hi - lo))
+    pub up-window : keep f (numbersFrom i (e - i)) ≡ keep f (numbersFrom lo (hi - lo))
     up-window =
         let n : e - i ≡ lo - i + (hi - lo + (e - hi)) = omega arith in
         let m : i + (lo - i) ≡ lo = omega arith in

@@ -11,8 +11,9 @@ use lib.ListN.{length, getD, List·getD-eq-default}
 use Rattle.numbers.specs.declared.Coordinate.{Coordinate}
 use Rattle.events.specs.Coordinates.{same}
 use Rattle.events.specs.Binary64.{binary64}
+use Rattle.checks.specs.Numbers.{numbersFrom}
 use Rattle.contours.specs.Result.{keep}
-use Rattle.contours.specs.Round.{up, down, isOpen, seek, rights, lefts, tries}
+use Rattle.contours.specs.Round.{down, isOpen, seek, rights, lefts, tries}
 use Rattle.rows.specs.declared.End.{End}
 use Rattle.rows.specs.Rows.{Rows, size, pointAt, endAt, tableRow, rowOf}
 use Rattle.rows.proofs.Lists.{getD-any}
@@ -59,11 +60,11 @@ module _ (t : Rows) (ms : List ℕ) (p : Coordinate) (l : Bool) (i m : ℕ) (e :
 
 module _ (t : Rows) (ms : List ℕ) (p : Coordinate) where
   right-step : (i k : ℕ) → rightsFrom t ms p i (suc k) ≡ cond (fitting t ms p false i) i (rightsFrom t ms p (suc i) k)
-  unfolding rightsFrom rights keep up seek found fitting markIn tableRow rowOf
+  unfolding rightsFrom rights keep numbersFrom seek found fitting markIn tableRow rowOf
   right-step i k = go (isOpen (getD ms i 1)) (endAt t i .left) (same binary64 p (pointAt t i)) refl
     where
       rest : List ℕ
-      rest = keep (λ j. same binary64 p (pointAt t j) && not (endAt t j .left)) (up (suc i) k)
+      rest = keep (λ j. same binary64 p (pointAt t j) && not (endAt t j .left)) (numbersFrom (suc i) k)
 
       go : (o l s : Bool) → isOpen (getD ms i 1) ≡ o
           → found (length ms) (seek ms (cond (s && not l) (i ∷ rest) rest)) ≡ cond (cond o (cond (Bool·beq l false) s false) false) i (found (length ms) (seek ms rest))
@@ -104,7 +105,7 @@ module _ (t : Rows) (ms : List ℕ) (p : Coordinate) where
   up-on j e u h v s = rw (up-more j e h, s) at v
 
   pub up-end : (j e u : ℕ) → e ≤ j → rightsFrom t ms p j (e - j) ≡ u → length ms ≡ u
-  unfolding rightsFrom rights keep up seek found
+  unfolding rightsFrom rights keep numbersFrom seek found
   up-end j e u h v = let q : e - j ≡ 0 = omega arith in rw q at v
 
   down-more : (i j : ℕ) → i < j → leftsFrom t ms p i (j - i) ≡ cond (fitting t ms p true (j - 1)) (j - 1) (leftsFrom t ms p i (j - 1 - i))

@@ -1,23 +1,16 @@
 -- Reading after storing: a row survives its numbers, and a store touches no other position and no size.
 use mathlib.Core.Path.{_≡_, refl, _∙_}
 use mathlib.Core.Logic.{_≢_}
-use mathlib.Core.Bool.{Bool, true, false}
 use mathlib.Core.List.{[]}
 use Prim.Native.Nat.{ℕ, _<_}
 use borrow.Author.Tests.{lt-ltb}
-use lib.Dec.{eqb}
 use lib.ListN.{length, length-set}
 use lib.Seq.{getD-set-same, getD-set-other}
 use Rattle.numbers.specs.declared.Coordinate.{Coordinate}
-use Rattle.events.specs.Pool.{flagNumber}
+use Rattle.events.proofs.Stored.{flag}
 use Rattle.contours.specs.Table.{Below, nothing, over, Row}
 use Rattle.rows.specs.declared.End.{End}
 use Rattle.rows.specs.Rows.{Rows, size, pointOf, pointCode, endOf, endCode, belowOf, belowNumber, belowFlag, rowOf, endFor, pointIn, endIn, tableRow, put}
-
-flag : (b : Bool) → eqb (flagNumber b) 1 ≡ b
-unfolding flagNumber
-flag true = refl
-flag false = refl
 
 pub end-back : (e : End) → endOf (endCode e) ≡ e
 unfolding endOf endCode

@@ -3,8 +3,8 @@
 // Outside the table a read gives a right end at the point of a blank record, and a store changes nothing.
 ghost use mathlib.Core.Path.{_≡_};
 ghost use lib.ListN.{set};
-ghost use Rattle.events.specs.Pool.{flagNumber};
 ghost use Rattle.rows.specs.Rows.{lent, put, pointIn, pointCode, endOf, endIn, endCode};
+use events::pool::number_of_flag;
 use numbers::Coordinate;
 
 // What a row holds beside its point.
@@ -46,12 +46,6 @@ pub fn end_at(rows: &[[u32; 4]], i: usize) -> End
         return end_of(rows[i]);
     }
     end_of([0, 0, 0, 0])
-}
-
-fn number_of_flag(b: bool) -> u32
-    ensures { λ r. ⌜ r ≡ flagNumber b ⌝ }
-{
-    if b { 1 } else { 0 }
 }
 
 fn put_end(rows: &mut [[u32; 4]], i: usize, end: End)

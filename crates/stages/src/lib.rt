@@ -1,7 +1,7 @@
 // What C and Rust call of the stages one by one: loading, the sweep, connection. include/bezorika.h says the same in plain words.
 // Each answers 0, or the number of a refusal; an output that a call does not name stays as lent.
 ghost use mathlib.Core.Path.{_≡_};
-ghost use Rattle.events.specs.Pool.{pool, flagNumber};
+ghost use Rattle.events.specs.Pool.{pool};
 ghost use Rattle.loading.specs.OnPool as Loading;
 ghost use Rattle.sweep.specs.OnPool.{subdividePool};
 ghost use Rattle.connection.specs.Connection.{lent, connectEdges};
@@ -10,6 +10,7 @@ ghost use Rattle.stages.specs.Told.{operationOf};
 use class::Operation;
 use connection::Connected;
 use connection::connect_edges;
+use events::pool::number_of_flag;
 use loading::Loaded;
 use loading::load;
 use sweep::Swept;
@@ -50,12 +51,6 @@ fn operation_of(n: u32) -> Operation
         2 => Operation::Union,
         _ => Operation::Xor,
     }
-}
-
-fn number_of_flag(b: bool) -> u32
-    ensures { λ r. ⌜ r ≡ flagNumber b ⌝ }
-{
-    if b { 1 } else { 0 }
 }
 
 fn tell_swept(s: Swept, counts: &mut [u32; 4])

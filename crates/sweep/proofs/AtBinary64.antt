@@ -18,7 +18,7 @@ use Rattle.events.proofs.Stored.{pool-stored}
 use Rattle.class.specs.declared.Operation.{Operation}
 use Rattle.checks.specs.declared.Check.the-variants.{Passed, Refused}
 use Rattle.checks.specs.Checks.{maxEvents, missized, sizeRefusal}
-use Rattle.checks.specs.Loaded.{numbersFrom}
+use Rattle.checks.specs.Numbers.{numbersFrom}
 use Rattle.checks.specs.Sound as Checked
 use Rattle.checks.proofs.Told.{not-both, both-passed}
 use Rattle.checks.proofs.Unstruck.{neither}

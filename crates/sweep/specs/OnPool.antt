@@ -12,7 +12,7 @@ use Rattle.class.specs.declared.Operation.{Operation}
 use Rattle.checks.specs.declared.Check.{Check}
 use Rattle.checks.specs.declared.Check.the-variants.{Passed, Refused as Struck}
 use Rattle.checks.specs.Checks.{missized, sizeRefusal, checked, andThen}
-use Rattle.checks.specs.Loaded.{numbersFrom}
+use Rattle.checks.specs.Numbers.{numbersFrom}
 use Rattle.sweep.specs.declared.Swept.{Swept}
 use Rattle.sweep.specs.declared.Outcome.{Outcome}
 use Rattle.sweep.specs.declared.Outcome.the-variants.{Done, Refused}

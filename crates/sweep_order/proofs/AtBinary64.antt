@@ -16,7 +16,7 @@ use Rattle.class.specs.declared.Operation.{Operation}
 use Rattle.checks.specs.declared.Check.{Check}
 use Rattle.checks.specs.declared.Check.the-variants.{Passed, Refused as Struck}
 use Rattle.checks.specs.Checks.{andThen, maxEvents, missized, checked}
-use Rattle.checks.specs.Loaded.{numbersFrom}
+use Rattle.checks.specs.Numbers.{numbersFrom}
 use Rattle.checks.specs.Sound.{Sized}
 use Rattle.checks.proofs.Told.{both-passed}
 use Rattle.division.proofs.AtBinary64.{move-laws}

@@ -14,9 +14,9 @@ use Rattle.numbers.specs.declared.Coordinate.{Coordinate}
 use Rattle.events.specs.Coordinates.{same}
 use Rattle.events.specs.Binary64.{binary64}
 use Rattle.checks.specs.Checks.{maxEvents}
+use Rattle.checks.specs.Numbers.{numbersFrom}
 use Rattle.contours.specs.Result.{keep}
 use Rattle.contours.specs.Table.{Row, rowAt}
-use Rattle.contours.specs.Round.{up}
 use Rattle.contours.specs.Walk.{corners}
 use Rattle.contours.specs.Contours.{Contour, contour, Answer, done, halted, trailAt, trace}
 use Rattle.contours.specs.Outline.{Outline, isParent, holesOf, outline, outlinesFrom, outlines, openCount, cornerCount, holeCount}
@@ -75,8 +75,8 @@ module _ (t : Rows) (all : List Contour) where
 
 -- ---- holes
 
-keep-same : (f g : ℕ → Bool) (m j : ℕ) → ((i : ℕ) → i < j + m → f i ≡ g i) → keep f (up j m) ≡ keep g (up j m)
-unfolding keep up
+keep-same : (f g : ℕ → Bool) (m j : ℕ) → ((i : ℕ) → i < j + m → f i ≡ g i) → keep f (numbersFrom j m) ≡ keep g (numbersFrom j m)
+unfolding keep numbersFrom
 keep-same f g zero j h = refl
 keep-same f g (suc m) j h = rw (h j (omega arith), keep-same f g m (suc j) (λ i l. h i (omega arith)))
 

@@ -15,13 +15,16 @@ Inv-loop points marks list count₀ i₀ count i = Counted (inResult (rowAt (poo
 abbrev μ-loop : tie.MeasureT-loop
 μ-loop points marks list count₀ i₀ count i = length list - i
 
+cast-count : tie.Need-cast-count Inv-loop μ-loop
+cast-count c = omega (arith, at-most-one _ _ (c .number-of-flag .ensures))
+
 add-count : tie.Need-add-count Inv-loop μ-loop
-add-count c = omega (arith, at-most-one _ _ (c .one-if .ensures), c .before .before .before .before .loop .inv .most)
+add-count c = omega (arith, at-most-one _ _ (c .number-of-flag .ensures), c .before .before .before .before .loop .inv .most)
 
 loop-again : tie.Need-loop-again Inv-loop μ-loop
 loop-again c =
     let begun = c .before .before .before .before .loop in
-    one-counted _ _ _ _ (c .before .before .before .loop-test .taken) (begun .inv) (c .before .in-result .ensures) (c .one-if .ensures)
+    one-counted _ _ _ _ (c .before .before .before .loop-test .taken) (begun .inv) (c .before .in-result .ensures) (c .number-of-flag .ensures)
 
 returns : tie.Need-returns Inv-loop μ-loop
 unfolding results
@@ -38,6 +41,7 @@ count-events-spec =
     (λ c. search needs)
     (λ c κs. tt)
     (λ c κs. tt)
+    cast-count
     add-count
     (λ c. search needs)
     (λ c. omega arith)

@@ -1,4 +1,4 @@
--- The first records of a pool, in the order of their numbers, so that the lowest is told.
+-- Numbers in their order: of the first records of a pool, so that the lowest is told; of the positions in a table.
 use mathlib.Core.List.{List, [], _∷_}
 use Prim.Native.Nat.{ℕ, zero, suc}
 
