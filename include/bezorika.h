@@ -113,7 +113,8 @@ uint64_t bezorika_connect(const double (*points)[2], size_t points_length,
    Returns 0: the text is the first *length bytes of out.
    Returns the number of a refusal: its place is in *place and out is as lent.
    10 and 1: *place is the line; 5, last of all: *place is how many bytes the
-   text takes, so a second call with as many succeeds.
+   text takes, so a second call with as many succeeds. 60,942 bytes are enough
+   for every sheet (proved: `never-5`).
 
    One room and no strip, the corners by the bits of their numbers:
 

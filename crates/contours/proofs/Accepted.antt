@@ -147,8 +147,19 @@ module _ {P : Type 0} (C : Coordinates P) (row : ℕ → Event P) (n : ℕ) (lis
   unfolding misplaced
   soundly e f = (sound-all e f, once-distinct list (λ r m. neither (twice list r) (mistaken C row n r) (told-none 4 (misplaced C row n list) list f r m) .0))
 
+  pub accepted-by : toldLowest 2 (unfitAt C row n) list ≡ Passed → toldLowest 4 (misplaced C row n list) list ≡ Passed → toldLowest 8 (halfListed C row n list) list ≡ Passed
+      → Accepted C row n list
+  unfolding halfListed
+  accepted-by two four eight =
+      let sounds = soundly two four in
+      record {
+        each = sounds .0;
+        distinct = sounds .1;
+        both = λ r m i. listed-in list _ (both-out (inResult row r) _ i (told-none 8 (halfListed C row n list) list eight r m));
+      }
+
   pub accepted : (points marks : ℕ) (room : Room) → accept C row n points marks list room ≡ Passed → Accepted C row n list × Fits C row n list points marks room
-  unfolding accept roomy listSized halfListed
+  unfolding accept roomy listSized
   accepted points marks room e =
       let one = both-passed _ _ e in
       let size = both-passed _ _ (one .1) in
@@ -156,13 +167,8 @@ module _ {P : Type 0} (C : Coordinates P) (row : ℕ → Event P) (n : ℕ) (lis
       let four = both-passed _ _ (two .1) in
       let eight = both-passed _ _ (four .1) in
       let five = both-passed _ _ (eight .1) in
-      let rest = both-passed _ _ (five .1) in
-      let sounds = soundly (two .0) (four .0) in (
-        record {
-          each = sounds .0;
-          distinct = sounds .1;
-          both = λ r m i. listed-in list _ (both-out (inResult row r) _ i (told-none 8 (halfListed C row n list) list (eight .0) r m));
-        },
+      let rest = both-passed _ _ (five .1) in (
+        accepted-by (two .0) (four .0) (eight .0),
         record {
           short = list-short list (one .0);
           sizes = sized-passed points marks (size .0);

@@ -34,7 +34,7 @@ unfolding edgeTotal
 edge-snoc [] k = omega arith
 edge-snoc (x ∷ cs) k = omega (arith, edge-snoc cs k)
 
-count-snoc : (cs : List Contour) (k : Contour) → length (cs ++ (k ∷ [])) ≡ suc (length cs)
+pub count-snoc : (cs : List Contour) (k : Contour) → length (cs ++ (k ∷ [])) ≡ suc (length cs)
 count-snoc [] k = refl
 count-snoc (x ∷ cs) k = ap suc (count-snoc cs k)
 
@@ -50,10 +50,10 @@ module _ {P : Type 0} (same : P → P → Bool) (n : ℕ) (row : ℕ → Row P) 
   corner-snoc [] k = omega arith
   corner-snoc (x ∷ cs) k = omega (arith, corner-snoc cs k)
 
-  abbrev lefts : List ℕ → ℕ
+  abbrev pub lefts : List ℕ → ℕ
   lefts ms = openFrom (λ j. row j .left) 0 ms
 
-  abbrev ends : List ℕ → ℕ
+  abbrev pub ends : List ℕ → ℕ
   ends ms = openFrom (λ j. true) 0 ms
 
   -- one contour
@@ -63,12 +63,12 @@ module _ {P : Type 0} (same : P → P → Bool) (n : ℕ) (row : ℕ → Row P) 
     some-edge : 1 ≤ length t
     points : length (corners same n row t) ≡ suc (length t)
 
-  one-left : (c : ℕ) (ms : List ℕ) (f : Fine same n row good value ms) (i : ℕ) (l : i < n) (e : getD ms i 1 ≡ 0) → lefts ms ≡ suc (lefts (mark same n row c ms i))
+  pub one-left : (c : ℕ) (ms : List ℕ) (f : Fine same n row good value ms) (i : ℕ) (l : i < n) (e : getD ms i 1 ≡ 0) → lefts ms ≡ suc (lefts (mark same n row c ms i))
   one-left c ms f i l e =
       let q = count-mark same n row good value c ms f i l e (λ j. row j .left) in
       omega (arith, q, two-sides (row i .left), ap bit (sides i l))
 
-  two-ends : (c : ℕ) (ms : List ℕ) (f : Fine same n row good value ms) (i : ℕ) (l : i < n) (e : getD ms i 1 ≡ 0) → ends ms ≡ suc (suc (ends (mark same n row c ms i)))
+  pub two-ends : (c : ℕ) (ms : List ℕ) (f : Fine same n row good value ms) (i : ℕ) (l : i < n) (e : getD ms i 1 ≡ 0) → ends ms ≡ suc (suc (ends (mark same n row c ms i)))
   unfolding bit
   two-ends c ms f i l e = let q = count-mark same n row good value c ms f i l e (λ j. true) in omega (arith, q)
 

@@ -1,5 +1,6 @@
 -- Demand 3 for a lent pool, at binary64: nothing is assumed but 01's words. Directions are told by the exact orientation, points are one by value.
 use mathlib.Core.Path.{_≡_, ap, ap₂}
+use mathlib.Core.Logic.{_≢_}
 use mathlib.Core.Bool.{true}
 use mathlib.Core.Option.{some}
 use mathlib.Core.List.{List, List·Memᴰ}
@@ -19,9 +20,13 @@ use Rattle.contours.specs.Connect.{Finished, refused, stopped, connected
 use Rattle.contours.specs.OnPool.{connectPool}
 use Rattle.contours.specs.Renaming.{RenumberedPool, Relisted, NoneOneWay, EvenEnds, timesWalked, SameFinished, Alike}
 use Rattle.contours.specs.Walls.{toldOf, unclosedAmong, OneToOne}
+use Rattle.contours.proofs.Lists.{All}
+use Rattle.contours.proofs.Nesting.{Numbers}
 use Rattle.contours.proofs.Cause.{Cause}
 use Rattle.contours.proofs.Given.{ResultEdgeAt}
 use Rattle.contours.proofs.Given as G
+use Rattle.contours.proofs.Room.{Roomy}
+use Rattle.contours.proofs.Room as R
 use Rattle.contours.proofs.Demand as D
 use Rattle.contours.proofs.Walls as W
 use Rattle.contours.proofs.Told as T
@@ -99,6 +104,11 @@ module _ (p : Pool) (list : List ℕ) (room : Room) (f : Finished Coordinate Poo
   unfolding connectPool stored laws
   enough = G.enough binary64 stored laws fine p (length (p .points)) (length (p .marks)) list room f e
 
+  -- every parent and hole is one of the contours, and every depth is below how many they are
+  pub numbers : All (Numbers (length (f .outlines))) (f .outlines)
+  unfolding connectPool stored laws
+  numbers = G.numbers binary64 stored laws fine p (length (p .points)) (length (p .marks)) list room f e
+
   module _ (o : Outline Coordinate) (m : List·Memᴰ o (f .outlines)) where
     pub one-more : length (o .corners) ≡ suc (length (o .trail))
     unfolding connectPool stored laws
@@ -114,3 +124,8 @@ module _ (p : Pool) (list : List ℕ) (room : Room) (f : Finished Coordinate Poo
 pub cause : (p : Pool) (list : List ℕ) (room : Room) (x : Refusal) → connectPool p list room ≡ refused x → Cause binary64 (rowAt p) (size p) (length (p .points)) (length (p .marks)) list room x
 unfolding connectPool stored
 cause p list room x e = D.refused-cause binary64 stored p (length (p .points)) (length (p .marks)) list room x e
+
+-- A place for each listed event, and half as many for contours and for holes, are never too few.
+pub always-room : (p : Pool) (list : List ℕ) (room : Room) → Roomy list room → (x : Refusal) → connectPool p list room ≡ refused x → x .number ≢ 5
+unfolding stored laws
+always-room p list room h x e = R.cause-not-5 binary64 (rowAt p) laws fine (size p) list (length (p .points)) (length (p .marks)) room h x (cause p list room x e)

@@ -24,6 +24,7 @@ use Rattle.contours.proofs.Lists.{All, length-perm}
 use Rattle.contours.proofs.Marks.{openFrom, open-le}
 use Rattle.contours.proofs.Turns.{Ends}
 use Rattle.contours.proofs.Amount.{Amount, amount, outline-count, corner-count, hole-count}
+use Rattle.contours.proofs.Nesting.{Numbers, numbered, outlines-in}
 use Rattle.contours.proofs.Corners.{Trail, edge-at, corners-length, some-edge, chained}
 use Rattle.contours.proofs.Accepted.{Accepted, Fits, accepted}
 use Rattle.contours.proofs.Good.{size, sorted, good, by-value, sides, lefts-open, rec-in, rec-other, point-is}
@@ -131,6 +132,13 @@ module _ {P S : Type 0} (C : Coordinates P) (K : Store P S) (L : OrderLaws C) (f
         omega (arith, corner-count (same C) count at cs cs 0, much .2 .points, much .2 .all, much .2 .count, events-all, sh .fits .events),
         omega (arith, hole-count (same C) count at cs, contours-few, sh .fits .holes),
       )
+
+  -- Every parent and hole is one of the contours, and every depth is below how many they are.
+  pub numbers : All (Numbers (length (f .outlines))) (f .outlines)
+  unfolding traced outlines
+  numbers =
+      rw (sh .shown, outline-count (same C) count at cs cs 0)
+      (outlines-in (same C) count at cs cs 0 (held count _ (sh .answer) (rw (sh .trace) at (numbered (same C) count at)) .2 .nested))
 
   -- ---- corners
 

@@ -7,6 +7,8 @@ pub mod Round
 pub mod Turns
 pub mod Walked
 pub mod Amount
+pub mod Halves
+pub mod Nesting
 pub mod Corners
 pub mod Accepted
 pub mod Cause
@@ -15,6 +17,7 @@ pub mod Grouped
 pub mod Renamed
 pub mod Refusals
 pub mod Given
+pub mod Room
 pub mod Settled
 pub mod Demand
 pub mod Counted

@@ -3,8 +3,9 @@ use mathlib.Core.Path.{_≡_, refl, sym, ap, _∙_}
 use mathlib.Core.Logic.{_≢_, _⊎_, inl, inr}
 use mathlib.Core.Bool.{Bool, true, false, cond, true≢false}
 use mathlib.Core.List.{List, [], _∷_, map, List·Memᴰ, List·Memᴰ·head, List·Memᴰ·tail, List·Memᴰ·not-nil, List·Memᴰ·cases-cons, List·Permᴰ, List·Permᴰ·nil, List·Permᴰ·cons, List·Permᴰ·swap, List·Permᴰ·trans, Permᴰ·refl}
-use Prim.Native.Nat.{ℕ, zero, suc, _<_}
+use Prim.Native.Nat.{ℕ, zero, suc, _≤_, _<_}
 use native.Mathlib.Nat.{not-suc-le-zero, le-of-suc-le-suc}
+use native.Mathlib.Omega.{arith}
 use lib.ListN.{length, getD}
 use Rattle.contours.specs.Result.{keep}
 
@@ -110,6 +111,15 @@ module _ {A : Type 0} (f : A → Bool) where
           head (inl s) = (List·Memᴰ·head s, ap f s ∙ q)
           head (inr k) = (List·Memᴰ·tail (r k .0), r k .1)
       go false q m r = (List·Memᴰ·tail (r m .0), r m .1)
+
+  pub keep-few : (l : List A) → length (keep f l) ≤ length l
+  unfolding keep
+  keep-few [] = omega arith
+  keep-few (a ∷ l) = go (f a) (keep-few l)
+    where
+      go : (t : Bool) → length (keep f l) ≤ length l → length (cond t (a ∷ keep f l) (keep f l)) ≤ suc (length l)
+      go true i = omega arith
+      go false i = omega arith
 
   pub keep-perm : {l m : List A} → List·Permᴰ l m → List·Permᴰ (keep f l) (keep f m)
   unfolding keep

@@ -29,7 +29,8 @@ module _ {P : Type 0} (same : P → P → Bool) (n : ℕ) (row : ℕ → Row P) 
 
   module _ (I : ℕ → List ℕ → List Contour → Type 0)
       (skip : (i : ℕ) (ms : List ℕ) (cs : List Contour) → i < n → I i ms cs → isOpen (getD ms i 1) ≡ false → I (suc i) ms cs)
-      (start : (i : ℕ) (ms : List ℕ) (cs : List Contour) (p : Option ℕ) (d : ℕ) → i < n → I i ms cs → getD ms i 1 ≡ 0 → I (suc i) (marked i cs ms) (more i cs ms p d)) where
+      (start : (i : ℕ) (ms : List ℕ) (cs : List Contour) (p : Option ℕ) (d : ℕ) → i < n → I i ms cs → getD ms i 1 ≡ 0 → context ms cs (row i .below) ≡ placed p d
+      → I (suc i) (marked i cs ms) (more i cs ms p d)) where
     turns-end : (k i : ℕ) (ms : List ℕ) (cs : List Contour) → i + k ≡ n → I i ms cs → Ends n I (turns same n row k i ms cs)
     unfolding turns turn make
     turns-end zero i ms cs q h = let z : i ≡ n = omega arith in rw z at h
@@ -38,19 +39,26 @@ module _ {P : Type 0} (same : P → P → Bool) (n : ℕ) (row : ℕ → Row P) 
         After : Type 0
         After = (ms : List ℕ) (cs : List Contour) → I (suc i) ms cs → Ends n I (turns same n row k (i + 1) ms cs)
 
-        made : (w : Place) → getD ms i 1 ≡ 0 → After → Ends n I (make w (halted 9 i ms cs) (λ p d. turns same n row k (i + 1) (marked i cs ms) (more i cs ms p d)))
-        made refuse o r = (refl, omega arith, h)
-        made (placed p d) o r = r (marked i cs ms) (more i cs ms p d) (start i ms cs p d (omega arith) h o)
+        made : (w : Place) → context ms cs (row i .below) ≡ w → getD ms i 1 ≡ 0 → After → Ends n I (make w (halted 9 i ms cs) (λ p d. turns same n row k (i + 1) (marked i cs ms) (more i cs ms p d)))
+        made refuse e o r = (refl, omega arith, h)
+        made (placed p d) e o r = r (marked i cs ms) (more i cs ms p d) (start i ms cs p d (omega arith) h o e)
 
         go : (b : Bool) → isOpen (getD ms i 1) ≡ b → After
             → Ends n I (turn b (λ _. make (context ms cs (row i .below)) (halted 9 i ms cs) (λ p d. turns same n row k (i + 1) (marked i cs ms) (more i cs ms p d)))
             (λ _. turns same n row k (i + 1) ms cs))
-        go true o r = made (context ms cs (row i .below)) (open-true (getD ms i 1) o) r
+        go true o r = made (context ms cs (row i .below)) refl (open-true (getD ms i 1) o) r
         go false o r = r ms cs (skip i ms cs (omega arith) h o)
 
-    pub trace-end : I 0 (replicate n 0) [] → Ends n I (trace same n row)
+    pub trace-placed : I 0 (replicate n 0) [] → Ends n I (trace same n row)
     unfolding trace
-    trace-end h = turns-end n 0 (replicate n 0) [] (omega arith) h
+    trace-placed h = turns-end n 0 (replicate n 0) [] (omega arith) h
+
+  -- where parents and depths do not matter
+  pub trace-end : (I : ℕ → List ℕ → List Contour → Type 0)
+      → ((i : ℕ) (ms : List ℕ) (cs : List Contour) → i < n → I i ms cs → isOpen (getD ms i 1) ≡ false → I (suc i) ms cs)
+      → ((i : ℕ) (ms : List ℕ) (cs : List Contour) (p : Option ℕ) (d : ℕ) → i < n → I i ms cs → getD ms i 1 ≡ 0 → I (suc i) (marked i cs ms) (more i cs ms p d))
+      → I 0 (replicate n 0) [] → Ends n I (trace same n row)
+  trace-end I skip start = trace-placed I skip (λ i ms cs p d l h o e. start i ms cs p d l h o)
 
   -- with nothing asked of what was made
   pub by-nine : Ends n (λ i ms cs. Unit {0}) (trace same n row)

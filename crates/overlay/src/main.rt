@@ -9,9 +9,9 @@ fn write(out: &[u8], n: usize) {
 }
 
 fn main() {
-    // No sheet is as long: of longer input the first bytes tell why it is none.
+    // No sheet has more than 20,268 bytes (`sheet-short`): of longer input the first bytes tell why it is none.
     let mut input = io::large_buffer();
-    // No text is as long: 1,024 corners of 34 bytes and what stands before them.
+    // No text has more than 60,942 bytes (`answer-short`): 1,024 corners of 34 bytes and what stands before them.
     let mut out = io::large_buffer();
     let n = io::read_full(libc::STDIN_FILENO, &mut input);
     let told = answer(&input[..n], &mut out);

@@ -1,3 +1,6 @@
--- The sheet that is read (`Reading`), and what each step after it hands on (`Handing`).
+-- The sheet that is read (`Reading`), what each step after it hands on (`Handing`), and that 5 is never told (`Lengths`).
 pub mod Reading
 pub mod Handing
+pub mod Refusals
+pub mod Texts
+pub mod Lengths

@@ -4,3 +4,4 @@ pub mod Parts
 pub mod Words
 pub mod Apart
 pub mod Held
+pub mod Lengths

@@ -101,14 +101,15 @@ module _ (w : ℕ) (u : List ℕ) (over : run u ≡ 0) where
       go (yes l) = rw (run-decimal, lt-ltb 1 (length (decimal w)) l, decimal-first w u h l)
       go (no l) = rw (run-decimal, le-ltb 1 (length (decimal w)) (omega arith))
 
-decimal-most : (w : ℕ) → w < 10 ^ 19 → length (decimal w) ≤ 19
+-- a number below a power of ten has no more digits than that
+pub decimal-most : (k w : ℕ) → w < 10 ^ suc k → length (decimal w) ≤ suc k
 unfolding decimal
-decimal-most w h = omega (arith, digits-length 10 (places 10 20 w) w, places-most 10 18 20 w (omega arith) h)
+decimal-most k w h = omega (arith, digits-length 10 (places 10 20 w) w, places-most 10 k 20 w (omega arith) h)
 
 pub decimal-front : (w : ℕ) (u : List ℕ) → w < 10 ^ 19 → decimalAt (decimal w ++ u) 0 (length (decimal w)) ≡ Value w
 unfolding decimalAt
 decimal-front w u h =
-    rw (le-ltb 19 (length (decimal w)) (decimal-most w h), bytes-front (decimal w) u) (decimal-back w (omega arith))
+    rw (le-ltb 19 (length (decimal w)) (decimal-most 18 w h), bytes-front (decimal w) u) (decimal-back w (omega arith))
 
 -- the first of several digits is another than 0
 numeral-head : (s : List ℕ) (m : ℕ) → numeral s ≡ suc m → 0 < m → getD s 0 0 ≡ 48 → ⊥

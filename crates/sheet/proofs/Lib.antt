@@ -10,3 +10,4 @@ pub mod Sheets
 pub mod Cuts
 pub mod Stuck
 pub mod FirstWrong
+pub mod Lengths

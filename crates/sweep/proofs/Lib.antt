@@ -14,3 +14,4 @@ pub mod Lines
 pub mod Sweeps
 pub mod AtBinary64
 pub mod Answers
+pub mod Refusals

@@ -1,0 +1,78 @@
+-- What is printed after connection is the text of its outlines: the arrays hold them, and behind them what was lent.
+use mathlib.Core.Path.{_≡_, refl, sym, ap, _∙_}
+use mathlib.Core.Option.{Option, none, some}
+use mathlib.Core.List.{List, [], _∷_, _++_, map}
+use Prim.Native.Nat.{ℕ, suc, _+_, _≤_}
+use native.Mathlib.Numerals.{add-one}
+use native.Mathlib.Omega.{arith}
+use lib.Ieee.{Float}
+use lib.ListN.{length, take, drop, length-append, length-map}
+use lib.Seq.{take-append-seam}
+use Rattle.numbers.specs.declared.Coordinate.{Coordinate}
+use Rattle.contours.specs.Outline.{Outline, cornerCount, holeCount}
+use Rattle.rows.specs.Rows.{pointCode}
+use Rattle.starts.specs.Starts.{codeOf}
+use Rattle.tracing.specs.Tracing.{cornersIn, holesIn, rowIn, rowsIn}
+use Rattle.lists.proofs.Fronts.{sets-front}
+use Rattle.connection.specs.Connection.{Lent, written}
+use Rattle.printing.specs.Printing.{printed}
+use Rattle.printing.specs.Arrays.{printedArrays, numberOf, rowsFrom, numbersOf, allCorners, allHoles}
+use Rattle.printing.proofs.Held.{held}
+
+-- ---- the arrays of connection are those that printing speaks of
+
+points-same : (l : List Coordinate) → map pointCode l ≡ map numbersOf l
+unfolding pointCode numbersOf
+points-same [] = refl
+points-same (p ∷ l) = ap (λ (m : List (List Float)). numbersOf p ∷ m) (points-same l)
+
+corners-same : (os : List (Outline Coordinate)) → cornersIn os ≡ allCorners os
+unfolding cornersIn allCorners
+corners-same [] = refl
+corners-same (o ∷ os) = rw (points-same (o .corners), corners-same os)
+
+holes-same : (os : List (Outline Coordinate)) → holesIn os ≡ allHoles os
+unfolding holesIn allHoles
+holes-same [] = refl
+holes-same (o ∷ os) = rw (holes-same os)
+
+code-same : (p : Option ℕ) → codeOf p ≡ numberOf p
+unfolding codeOf numberOf
+code-same none = refl
+code-same (some p) = add-one p
+
+rows-same : (c h : ℕ) (os : List (Outline Coordinate)) → rowsIn c h os ≡ rowsFrom c h os
+unfolding rowsIn rowIn rowsFrom
+rows-same c h [] = refl
+rows-same c h (o ∷ os) = rw (code-same (o .parent), rows-same (c + length (o .corners)) (h + length (o .holes)) os)
+
+-- ---- how long they are
+
+corners-count : (os : List (Outline Coordinate)) → length (cornersIn os) ≡ cornerCount os
+unfolding cornersIn cornerCount
+corners-count [] = refl
+corners-count (o ∷ os) = omega (arith, length-append (map pointCode (o .corners)) (cornersIn os), length-map (o .corners) pointCode, corners-count os)
+
+holes-count : (os : List (Outline Coordinate)) → length (holesIn os) ≡ holeCount os
+unfolding holesIn holeCount
+holes-count [] = refl
+holes-count (o ∷ os) = omega (arith, length-append (o .holes) (holesIn os), holes-count os)
+
+rows-count : (c h : ℕ) (os : List (Outline Coordinate)) → length (rowsIn c h os) ≡ length os
+unfolding rowsIn
+rows-count c h [] = refl
+rows-count c h (o ∷ os) = ap suc (rows-count (c + length (o .corners)) (h + length (o .holes)) os)
+
+-- ---- the text
+
+pub text-is : (os : List (Outline Coordinate)) (l : Lent) → length os ≤ length (l .contours) → cornerCount os ≤ length (l .corners) → holeCount os ≤ length (l .holes)
+    → printedArrays (written os l .corners) (written os l .contours) (written os l .holes) (length os) ≡ printed os
+unfolding written
+text-is os l h k m =
+    held os _ _ _ _ _ (length os)
+    (sets-front (l .corners) (cornersIn os) (omega (arith, corners-count os)) ∙ ap (λ (v : List (List Float)). v ++ drop (length (cornersIn os)) (l .corners)) (corners-same os))
+    (sets-front (l .holes) (holesIn os) (omega (arith, holes-count os)) ∙ ap (λ (v : List ℕ). v ++ drop (length (holesIn os)) (l .holes)) (holes-same os))
+    (ap (take (length os)) (sets-front (l .contours) (rowsIn 0 0 os) (omega (arith, rows-count 0 0 os)))
+    ∙ ap (λ (n : ℕ). take n (rowsIn 0 0 os ++ drop (length (rowsIn 0 0 os)) (l .contours))) (sym (rows-count 0 0 os))
+    ∙ take-append-seam (rowsIn 0 0 os) _
+    ∙ rows-same 0 0 os)
