@@ -137,19 +137,19 @@ seek-none ms (i ∷ l) e j m = go (isOpen (getD ms i 1)) refl e (List·Memᴰ·c
 
 -- ---- runs of positions
 
-pub up-in : (i k j : ℕ) → i ≤ j → j < i + k → List·Memᴰ j (numbersFrom i k)
+pub numbers-in : (i k j : ℕ) → i ≤ j → j < i + k → List·Memᴰ j (numbersFrom i k)
 unfolding numbersFrom
-up-in i zero j h l = absurd (omega arith)
-up-in i (suc k) j h l = go (ℕ-discrete j i) (up-in (suc i) k j)
+numbers-in i zero j h l = absurd (omega arith)
+numbers-in i (suc k) j h l = go (ℕ-discrete j i) (numbers-in (suc i) k j)
   where
     go : Dec (j ≡ i) → (suc i ≤ j → j < suc i + k → List·Memᴰ j (numbersFrom (suc i) k)) → List·Memᴰ j (i ∷ numbersFrom (suc i) k)
     go (yes s) r = List·Memᴰ·head s
     go (no s) r = List·Memᴰ·tail (r (omega arith) (omega arith))
 
-pub up-out : (i k j : ℕ) → List·Memᴰ j (numbersFrom i k) → j < i + k
+pub numbers-out : (i k j : ℕ) → List·Memᴰ j (numbersFrom i k) → j < i + k
 unfolding numbersFrom
-up-out i zero j m = absurd (List·Memᴰ·not-nil m)
-up-out i (suc k) j m = go (List·Memᴰ·cases-cons m) (up-out (suc i) k j)
+numbers-out i zero j m = absurd (List·Memᴰ·not-nil m)
+numbers-out i (suc k) j m = go (List·Memᴰ·cases-cons m) (numbers-out (suc i) k j)
   where
     go : (j ≡ i) ⊎ List·Memᴰ j (numbersFrom (suc i) k) → (List·Memᴰ j (numbersFrom (suc i) k) → j < suc i + k) → j < i + suc k
     go (inl s) r = omega arith

@@ -108,10 +108,10 @@ pub record Numbers {P : Type 0} (n : ℕ) (o : Outline P) : Type 0 where
   pub depth : o .depth < n
   pub holes : All (λ h. h < n) (o .holes)
 
-up-in : (i k n : ℕ) → i + k ≤ n → All (λ j. j < n) (numbersFrom i k)
+numbers-below : (i k n : ℕ) → i + k ≤ n → All (λ j. j < n) (numbersFrom i k)
 unfolding numbersFrom
-up-in i zero n h = tt
-up-in i (suc k) n h = (omega arith, up-in (suc i) k n (omega arith))
+numbers-below i zero n h = tt
+numbers-below i (suc k) n h = (omega arith, numbers-below (suc i) k n (omega arith))
 
 module _ {P : Type 0} (same : P → P → Bool) (n : ℕ) (row : ℕ → Row P) (all : List Contour) where
   pub outlines-in : (l : List Contour) (c : ℕ) → All (Nested (length all)) l → All (Numbers (length all)) (outlinesFrom same n row all c l)
@@ -121,7 +121,7 @@ module _ {P : Type 0} (same : P → P → Bool) (n : ℕ) (row : ℕ → Row P) 
     record {
       parent = h .0 .parent;
       depth = h .0 .depth;
-      holes = all-keep (λ j. isParent c (getD all j (contour [] none 0) .parent)) (λ j. j < length all) (numbersFrom 0 (length all)) (up-in 0 (length all) (length all) (omega arith));
+      holes = all-keep (λ j. isParent c (getD all j (contour [] none 0) .parent)) (λ j. j < length all) (numbersFrom 0 (length all)) (numbers-below 0 (length all) (length all) (omega arith));
     },
     outlines-in l (suc c) (h .1),
   )

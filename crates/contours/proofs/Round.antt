@@ -10,7 +10,7 @@ use Rattle.checks.specs.Numbers.{numbersFrom}
 use Rattle.contours.specs.Table.{Row}
 use Rattle.contours.specs.Round.{down, rights, lefts, tries}
 use Rattle.contours.proofs.Lists.{keep-in, keep-out}
-use Rattle.contours.proofs.Marks.{up-in, up-out, down-in, down-out}
+use Rattle.contours.proofs.Marks.{numbers-in, numbers-out, down-in, down-out}
 
 and-out : (a b : Bool) → (a && b) ≡ true → a ≡ true
 and-out true b e = refl
@@ -44,7 +44,7 @@ module _ {P : Type 0} (same : P → P → Bool) (n : ℕ) (row : ℕ → Row P) 
 
   rights-in : (p : P) (i k j : ℕ) → i ≤ j → j < i + k → same p (row j .point) ≡ true → row j .left ≡ false → List·Memᴰ j (rights same n row p i k)
   unfolding rights
-  rights-in p i k j h l e f = keep-in _ (numbersFrom i k) j (up-in i k j h l) (rw (e, f))
+  rights-in p i k j h l e f = keep-in _ (numbersFrom i k) j (numbers-in i k j h l) (rw (e, f))
 
   lefts-in : (p : P) (i k j : ℕ) → i ≤ j → j < i + k → same p (row j .point) ≡ true → row j .left ≡ true → List·Memᴰ j (lefts same n row p i k)
   unfolding lefts
@@ -54,7 +54,7 @@ module _ {P : Type 0} (same : P → P → Bool) (n : ℕ) (row : ℕ → Row P) 
   unfolding rights
   rights-out p i k j h m =
       let o = keep-out (λ j. same p (row j .point) && not (row j .left)) (numbersFrom i k) j m in
-      (omega (arith, up-out i k j (o .0)), and-out _ _ (o .1))
+      (omega (arith, numbers-out i k j (o .0)), and-out _ _ (o .1))
 
   lefts-out : (p : P) (i k j : ℕ) → i + k ≤ n → List·Memᴰ j (lefts same n row p i k) → At p j
   unfolding lefts

@@ -3,6 +3,7 @@ pub mod Ends
 pub mod First
 pub mod Units
 pub mod Place
+pub mod OneWay
 pub mod Patterns
 pub mod Next
 pub mod NextSame

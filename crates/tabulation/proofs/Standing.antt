@@ -1,30 +1,25 @@
 -- What a caller has from `tabulate` where there is room: read by position from the first places of rows and at, the rows are the definition's table.
 use mathlib.Core.Path.{_≡_, refl, sym, ap, _∙_}
 use mathlib.Core.Bool.{Bool, true, false}
-use mathlib.Core.List.{List, [], _∷_, map}
-use Prim.Native.Nat.{ℕ, zero, suc, _≤_, _<_}
-use native.Mathlib.Nat.{not-suc-le-zero, le-of-suc-le-suc}
+use mathlib.Core.List.{List, [], map}
+use Prim.Native.Nat.{ℕ, _≤_, _<_}
 use borrow.Author.Tests.{ltb-true, ltb-false, lt-ltb}
 use lib.Dec.{ltb}
-use lib.ListN.{length, getD, take, drop, List·getD-eq-default}
+use lib.ListN.{length, getD, take, drop, length-map, List·getD-eq-default}
 use lib.Seq.{take-at}
 use Rattle.numbers.specs.declared.Coordinate.{Coordinate}
 use Rattle.events.specs.Pool.{Pool}
 use Rattle.contours.specs.Table.{Row, nothing, place, rowAt}
+use Rattle.contours.proofs.Lists.{getD-map}
 use Rattle.positions.specs.Positions.{inFront, orderedIn, placesIn, placeIn}
 use Rattle.positions.proofs.Told.{each-place}
 use Rattle.rows.specs.Rows.{Rows, lent, pointIn, endIn, endFor, void, tableRow}
 use Rattle.rows.proofs.Read.{beyond}
 use Rattle.rows.proofs.Stored.{row-back, end-back, point-back}
 use Rattle.tabulation.specs.Tabulation.{Tabulated, tabulated, tableIn, rowCode, atCode, laid, roomy, tabulate}
-use Rattle.tabulation.proofs.Tabled.{room, length-map, size-table}
+use Rattle.tabulation.proofs.Tabled.{room, size-table}
 
 -- ---- the codes of a table, read
-
-getD-map : {A B : Type 0} (f : A → B) (l : List A) (i : ℕ) (a : A) (b : B) → i < length l → getD (map f l) i b ≡ f (getD l i a)
-getD-map f [] i a b h = absurd (not-suc-le-zero h)
-getD-map f (x ∷ l) zero a b h = refl
-getD-map f (x ∷ l) (suc i) a b h = getD-map f l i a b (le-of-suc-le-suc h)
 
 abbrev coded : List (Row Coordinate) → Rows
 coded rs = lent (map rowCode rs) (map atCode rs)
@@ -36,13 +31,13 @@ row-inside : (rs : List (Row Coordinate)) (i : ℕ) → i < length rs → tableR
 unfolding tableRow pointIn endIn rowAt rowCode atCode
 row-inside rs i h =
     rw
-    (length-map atCode rs, lt-ltb i (length rs) h, getD-map rowCode rs i none [] h, getD-map atCode rs i none [] h, end-back (endFor (getD rs i none)), point-back (getD rs i none .point))
+    (length-map rs atCode, lt-ltb i (length rs) h, getD-map rowCode rs i [] none h, getD-map atCode rs i [] none h, end-back (endFor (getD rs i none)), point-back (getD rs i none .point))
     (row-back (getD rs i none))
 
 row-beyond : (rs : List (Row Coordinate)) (i : ℕ) → length rs ≤ i → tableRow (coded rs) i ≡ rowAt void rs i
 unfolding rowAt
 row-beyond rs i h =
-    beyond (coded rs) i (rw (length-map rowCode rs) h) (rw (length-map atCode rs) h) ∙ sym (List·getD-eq-default rs none h)
+    beyond (coded rs) i (rw (length-map rs rowCode) h) (rw (length-map rs atCode) h) ∙ sym (List·getD-eq-default rs none h)
 
 pub row-coded : (rs : List (Row Coordinate)) (i : ℕ) → tableRow (coded rs) i ≡ rowAt void rs i
 row-coded rs i = go (ltb i (length rs)) refl
@@ -82,12 +77,12 @@ module _ (p : Pool) (l o q o′ q′ : List ℕ) (t t′ : Rows) (n : ℕ) (fits
   unfolding laid
   rows-coded =
       ap (λ (x : Tabulated). take n (x .rows .rows)) done
-      ∙ take-front (map rowCode (tableIn p l)) (t .rows) n (sized ∙ sym (length-map rowCode (tableIn p l)))
+      ∙ take-front (map rowCode (tableIn p l)) (t .rows) n (sized ∙ sym (length-map (tableIn p l) rowCode))
 
   points-coded : take n (t′ .at) ≡ map atCode (tableIn p l)
   unfolding laid
   points-coded =
-      ap (λ (x : Tabulated). take n (x .rows .at)) done ∙ take-front (map atCode (tableIn p l)) (t .at) n (sized ∙ sym (length-map atCode (tableIn p l)))
+      ap (λ (x : Tabulated). take n (x .rows .at)) done ∙ take-front (map atCode (tableIn p l)) (t .at) n (sized ∙ sym (length-map (tableIn p l) atCode))
 
   placed-in : (r : ℕ) → placeIn q′ n r ≡ place (orderedIn p l) r
   placed-in r =
@@ -100,7 +95,7 @@ module _ (p : Pool) (l o q o′ q′ : List ℕ) (t t′ : Rows) (n : ℕ) (fits
         size = sized;
         ordered = ap (λ (x : Tabulated). take n (x .order)) done ∙ take-front (orderedIn p l) o n counted;
         placed = placed-in;
-        rows = ap length rows-coded ∙ length-map rowCode (tableIn p l) ∙ sym sized;
-        points = ap length points-coded ∙ length-map atCode (tableIn p l) ∙ sym sized;
+        rows = ap length rows-coded ∙ length-map (tableIn p l) rowCode ∙ sym sized;
+        points = ap length points-coded ∙ length-map (tableIn p l) atCode ∙ sym sized;
         row = λ i. rw (rows-coded, points-coded) (row-coded (tableIn p l) i);
       }

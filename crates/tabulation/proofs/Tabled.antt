@@ -1,12 +1,12 @@
 -- The three steps one after the other, where there is room: each hands the next what it asks for, and together they lay the definition's table.
 use mathlib.Core.Path.{_≡_, refl, sym, ap, _∙_}
 use mathlib.Core.Bool.{Bool, true, false, cond, true≢false}
-use mathlib.Core.List.{List, [], _∷_, map}
-use Prim.Native.Nat.{ℕ, suc, _≤_}
+use mathlib.Core.List.{List, map}
+use Prim.Native.Nat.{ℕ, _≤_}
 use native.Mathlib.Omega.{arith}
 use borrow.Author.Tests.{ltb-false, leb-true, le-ltb}
 use lib.Dec.{ltb}
-use lib.ListN.{length, take, drop, length-append}
+use lib.ListN.{length, take, drop, length-append, length-map}
 use lib.Seq.{take-at}
 use Rattle.lists.proofs.Fronts.{sets-front}
 use Rattle.numbers.specs.declared.Coordinate.{Coordinate}
@@ -52,18 +52,14 @@ room a b c d e f h =
 
 -- ---- a table in front
 
-pub length-map : {A B : Type 0} (f : A → B) (l : List A) → length (map f l) ≡ length l
-length-map f [] = refl
-length-map f (a ∷ l) = ap suc (length-map f l)
-
 puts-laid : (rs : List (Row Coordinate)) (t : Rows) → length rs ≤ length (t .rows) → length rs ≤ length (t .at) → puts t 0 rs ≡ laid rs t
 unfolding puts laid inFront
 puts-laid rs t h k =
-    rw (sets-front (t .rows) (map rowCode rs) (rw (length-map rowCode rs) h), sets-front (t .at) (map atCode rs) (rw (length-map atCode rs) k))
+    rw (sets-front (t .rows) (map rowCode rs) (rw (length-map rs rowCode) h), sets-front (t .at) (map atCode rs) (rw (length-map rs atCode) k))
 
 pub size-table : (p : Pool) (l : List ℕ) → length (tableIn p l) ≡ length (orderedIn p l)
 unfolding tableIn table orderedIn
-size-table p l = length-map (rowOf (rowAt p) (ordered (rowAt p) binary64 l)) (ordered (rowAt p) binary64 l)
+size-table p l = length-map (ordered (rowAt p) binary64 l) (rowOf (rowAt p) (ordered (rowAt p) binary64 l))
 
 rows-table : (p : Pool) (l : List ℕ) → rowsOf p (orderedIn p l) ≡ tableIn p l
 unfolding rowsOf tableIn table orderedIn
