@@ -4,13 +4,13 @@ use mathlib.Core.Bool.{false}
 use mathlib.Core.List.{List}
 use Prim.Native.Nat.{ℕ, _≤_, _*_, min}
 use native.Mathlib.Omega.{arith}
-use lib.ListN.{length, length-set}
+use lib.ListN.{length}
 use lib.Ieee.{Float}
 use borrow.Author.Tests.{eq-eqb, le-ltb}
 use Rattle.refusals.specs.declared.Refusal.{Refusal}
 use Rattle.numbers.specs.declared.Coordinate.{Coordinate}
 use Rattle.events.specs.Binary64.{binary64, plain}
-use Rattle.events.specs.Pool.{Pool, size, pointOf, marksOf, rowAt, store, stored}
+use Rattle.events.specs.Pool.{Pool, size, rowAt, stored}
 use Rattle.events.proofs.Stored.{pool-stored}
 use Rattle.class.specs.declared.Operation.{Operation}
 use Rattle.checks.specs.declared.Check.{Check}
@@ -25,6 +25,7 @@ use Rattle.loading.specs.Loading.{Edge, loaded}
 use Rattle.loading.specs.OnPool as Loading
 use Rattle.loading.specs.OnPool.{edgesOf, edgesSized, poolSized, load}
 use Rattle.loading.proofs.Accepted.{accepted, as-many}
+use Rattle.loading.proofs.Kept.{points-loaded, marks-loaded}
 use Rattle.loading.proofs.AsLoaded.{as-loaded}
 use Rattle.sweep.specs.Run.{subdivide}
 use Rattle.sweep.specs.OnPool.{After, sizes, accept, answerOf, afterRun, subdividePool}
@@ -33,7 +34,6 @@ use Rattle.sweep.proofs.Looks.{pool-blanks}
 use Rattle.sweep_order.specs.Loadings.{NeverTie, OnlyNumbers}
 use Rattle.sweep_order.specs.OnPool.{Reordered, SameSize, SameAfter, OrderFreeCalls}
 use Rattle.sweep_order.proofs.Permuted as Permuted
-use Rattle.sweep_order.proofs.Loaded.{kept-loaded}
 use Rattle.sweep_order.proofs.Checked.{any-order}
 use Rattle.sweep_order.proofs.Started.{good-loaded}
 use Rattle.sweep_order.proofs.Order.{order-free, never-tie}
@@ -96,14 +96,6 @@ module _ (ends : List (List Float)) (labels : List (List ℕ)) (p : Pool) where
     unfolding sizes missized
     sizes-pass points marks taken n s e k = rw (eq-eqb points marks (s .equal), le-ltb maxEvents points (s .few), eq-eqb points taken (sym e), le-ltb points n k)
 
-    points-kept : length (loaded binary64 stored p 0 l .points) ≡ length (p .points)
-    unfolding stored store
-    points-kept = kept-loaded binary64 stored (λ q. length (q .points)) (λ q i e. length-set (q .points) i (pointOf e)) p 0 l
-
-    marks-kept : length (loaded binary64 stored p 0 l .marks) ≡ length (p .marks)
-    unfolding stored store
-    marks-kept = kept-loaded binary64 stored (λ q. length (q .marks)) (λ q i e. length-set (q .marks) i (marksOf e)) p 0 l
-
     sound-records : checked binary64 (rowAt (loaded binary64 stored p 0 l)) (2 * length l) (numbersFrom 0 (2 * length l)) ≡ Passed
     sound-records =
         subst (λ (a : Loading.After). checked binary64 (rowAt (a .pool)) (2 * length l) (numbersFrom 0 (2 * length l)) ≡ Passed) loads
@@ -112,7 +104,7 @@ module _ (ends : List (List Float)) (labels : List (List ℕ)) (p : Pool) where
     accepts : (taken : List ℕ) → length taken ≡ length (p .points) → accept (loaded binary64 stored p 0 l) (2 * length l) taken ≡ Passed
     unfolding accept andThen
     accepts taken e =
-        rw (points-kept, marks-kept, sizes-pass (length (p .points)) (length (p .marks)) (length taken) (2 * length l) (accepted ends labels p h .sizes) e fits) sound-records
+        rw (points-loaded p 0 l, marks-loaded p 0 l, sizes-pass (length (p .points)) (length (p .marks)) (length taken) (2 * length l) (accepted ends labels p h .sizes) e fits) sound-records
 
 -- ---- two loadings
 

@@ -1,7 +1,7 @@
 -- What loading leaves, by number: record r of the edges from i on stands at place 2i + r.
 use mathlib.Core.Path.{_≡_, refl, sym, ap, _∙_}
 use mathlib.Core.Bool.{not}
-use mathlib.Core.List.{List, [], _∷_}
+use mathlib.Core.List.{List}
 use Prim.Native.Nat.{ℕ, zero, suc, _<_, _+_, _*_}
 use native.Mathlib.Omega.{arith}
 use lib.ListN.{length}
@@ -9,7 +9,7 @@ use Rattle.events.specs.Coordinates.{Coordinates, ahead}
 use Rattle.events.specs.Event.{Event}
 use Rattle.events.specs.Renaming.{renameLink, rename}
 use Rattle.events.specs.Store.{Store}
-use Rattle.loading.specs.Loading.{Edge, end, firstEnd, secondEnd, loadedEdge, loaded}
+use Rattle.loading.specs.Loading.{Edge, end, firstEnd, secondEnd}
 use Rattle.loading.proofs.Rows.{Rows, none, more}
 use Rattle.sweep_order.proofs.Permuted.{rename-rename, two, at}
 
@@ -34,10 +34,3 @@ module _ {P S : Type 0} (C : Coordinates P) (K : Store P S) where
   loaded-at {row} (more i e l u v rest) (suc (suc r)) h =
       let same : 2 * i + suc (suc r) ≡ 2 * suc i + r = omega arith in
       ap row same ∙ loaded-at rest r (omega arith) ∙ sym (rename-rename (λ x. 2 * i + x) two (λ x. 2 * suc i + x) (λ x. omega arith) (at C K l r))
-
--- what no store changes, no loading does
-pub kept-loaded : {P S A : Type 0} (C : Coordinates P) (K : Store P S) (f : S → A) → ((s : S) (i : ℕ) (e : Event P) → f (K .store s i e) ≡ f s)
-    → (s : S) (i : ℕ) (l : List (Edge P)) → f (loaded C K s i l) ≡ f s
-unfolding loaded loadedEdge
-kept-loaded C K f h s i [] = refl
-kept-loaded C K f h s i (e ∷ l) = kept-loaded C K f h (loadedEdge C K s i e) (suc i) l ∙ h _ _ _ ∙ h _ _ _

@@ -1,0 +1,23 @@
+-- Lists looked at in their first places: a store is one store there, wherever it goes.
+use mathlib.Core.Path.{_≡_, refl, sym, ap, _∙_}
+use mathlib.Core.List.{List, [], _∷_}
+use Prim.Native.Nat.{ℕ, zero, suc, _≤_}
+use native.Mathlib.Omega.{arith}
+use lib.ListN.{set, take, replicate}
+use lib.Seq.{sets}
+
+pub take-set : {A : Type 0} (n : ℕ) (l : List A) (i : ℕ) (a : A) → take n (set l i a) ≡ set (take n l) i a
+take-set zero l i a = refl
+take-set (suc n) [] i a = refl
+take-set (suc n) (x ∷ l) zero a = refl
+take-set (suc n) (x ∷ l) (suc i) a = ap (λ m. x ∷ m) (take-set n l i a)
+
+pub take-sets : (n : ℕ) (l : List ℕ) (i : ℕ) (vs : List ℕ) → sets (take n l) i vs ≡ take n (sets l i vs)
+take-sets n l i [] = refl
+take-sets n l i (v ∷ vs) = ap (λ m. sets m (suc i) vs) (sym (take-set n l i v)) ∙ take-sets n (set l i v) (suc i) vs
+
+-- all alike
+pub take-alike : {A : Type 0} (n m : ℕ) (a : A) → n ≤ m → take n (replicate m a) ≡ replicate n a
+take-alike zero m a h = refl
+take-alike (suc n) zero a h = absurd (omega arith)
+take-alike (suc n) (suc m) a h = ap (λ l. a ∷ l) (take-alike n m a (omega arith))
