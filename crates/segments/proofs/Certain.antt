@@ -53,17 +53,17 @@ middle (fin s i e) (inf false) (inf t) h k l m = absurd (true≢false k)
 middle (fin s i e) (inf false) (fin t j d) h k l m = absurd (false≢true m)
 middle (fin s i e) (fin t j d) z h k l m = refl
 
-rising : {x y : Float} → Finite x → Finite y → lt x y ≡ true → Rising x y
+pub rising : {x y : Float} → Finite x → Finite y → lt x y ≡ true → Rising x y
 rising {x} {y} X Y t = record { first = X; second = Y; up = ltb-true (place x) (place y) (sym (lt-place x y X Y) ∙ t) }
 
 -- in x: the older one's left end, the newer one's, the older one's right end
-record Beside (a c b : Float) : Type 0 where
-  wide : Rising a b
-  start : Finite c
-  from : place a ≤ place c
-  within : place c ≤ place b
+pub record Beside (a c b : Float) : Type 0 where
+  pub wide : Rising a b
+  pub start : Finite c
+  pub from : place a ≤ place c
+  pub within : place c ≤ place b
 
-at-most : {x y : Float} → Finite x → Finite y → le x y ≡ true → place x ≤ place y
+pub at-most : {x y : Float} → Finite x → Finite y → le x y ≡ true → place x ≤ place y
 at-most {x} {y} X Y t = leb-true (place x) (place y) (sym (le-place x y X Y) ∙ t)
 
 module _ (old new : Key Coordinate) (O : Held old) (N : Held new) where
@@ -139,17 +139,20 @@ module _ (old new : Key Coordinate) (b : Beside (old .point .x) (new .point .x) 
   unfolding before byNumber binary64
   newer t = rw (not-earlier, t)
 
+  -- .. however it is known where the numbers stand
+  pub lies-above : Apart-in-y (old .point .y) (old .mate .y) (new .point .y) (new .mate .y) → compareSegments binary64 plain new old ≡ Greater
+  unfolding compareSegments lessIfInversed isPositive isZero
+  lies-above r =
+      let cross = crossing-above (old .point) (old .mate) (new .point) (new .mate) r in
+      rw (newer-above (r .a-c), decided Positive refl (left-turn r) cross (not-level (r .a-c)) (less (r .a-c)))
+
 -- ---- the answers
 module _ (old new : Key Coordinate) (O : Held old) (N : Held new) (t : beside old new ≡ true) where
   abbrev near : Beside (old .point .x) (new .point .x) (old .mate .x)
   near = is-beside old new O N t
 
   pub above : under old new ≡ true → compareSegments binary64 plain new old ≡ Greater
-  unfolding compareSegments lessIfInversed isPositive isZero
-  above u =
-      let r = is-under old new O N u in
-      let cross = crossing-above (old .point) (old .mate) (new .point) (new .mate) r in
-      rw (newer-above old new near (r .a-c), decided old new near Positive refl (left-turn old new near r) cross (not-level (r .a-c)) (less (r .a-c)))
+  above u = lies-above old new near (is-under old new O N u)
 
   pub below : lt (old .point .x) (new .point .x) ≡ true → under new old ≡ true → compareSegments binary64 plain new old ≡ Less
   unfolding compareSegments lessIfInversed isPositive isZero

@@ -135,14 +135,14 @@ fn is_below(old: Key, new: Key) -> bool
 }
 
 // What the boxes of two segments are certain of.
-pub enum ByBoxes {
+enum ByBoxes {
     Less,
     Greater,
     Open,
 }
 
 // Where b is the older one and the boxes lie apart in y, they tell how a compares to it.
-pub fn by_boxes(a: Key, b: Key) -> ByBoxes
+fn by_boxes(a: Key, b: Key) -> ByBoxes
     ensures { λ r. ⌜ r ≡ byBoxes (shownKey a) (shownKey b) ⌝ }
     ensures { λ r. ⌜ Agrees r (Segments.compareSegments binary64 plain (shownKey a) (shownKey b)) ⌝ }
 {

@@ -1,2 +1,3 @@
 -- What one event does to the records.
 pub mod Event
+pub mod Clear

@@ -9,11 +9,12 @@ ghost use Rattle.order.specs.Keys.{shownKey, keyUsed};
 ghost use Rattle.segments.specs.Segments.{compareSegments};
 ghost use Rattle.lists.specs.Lists.{slot};
 ghost use Rattle.sweep_events.specs.Event.{isLess, isBelow};
+use crate::clear::after_clear;
+use crate::clear::lower_of;
+use crate::clear::ready_of;
 use order::Key;
 use order::key_used;
-use segments::ByBoxes;
 use segments::Ordering;
-use segments::by_boxes;
 use segments::compare_segments;
 use status::count;
 
@@ -34,12 +35,7 @@ fn is_below(points: &[[f64; 2]], marks: &[[u32; 12]], used: u32, e: u32, key: Ke
     if e == x {
         return false;
     }
-    // most members are told by their boxes, before their keys are read whole
-    match by_boxes(key, key_used(points, marks, used, x)) {
-        ByBoxes::Less => true,
-        ByBoxes::Greater => false,
-        ByBoxes::Open => is_less(compare_segments(key, key_used(points, marks, used, x))),
-    }
+    is_less(compare_segments(key, key_used(points, marks, used, x)))
 }
 
 // The place in the status, which may be the one behind its last.
@@ -54,13 +50,16 @@ pub fn slot_below(
     ensures { λ r. ⌜ r ≡ slot (isBelow binary64 stored plain (pool (now (points .entry)) (now (marks .entry))) used e) (take n (now (status .entry))) ⌝ }
 {
     let key = key_used(points, marks, used, e);
+    let low = lower_of(key.point.y, key.mate.y);
+    let ready = ready_of(points, marks, used);
     let end = count(status, n);
-    let mut i = 0;
+    // most members lie clear below: only the others are compared
+    let mut i = after_clear(points, marks, used, ready, key, low, status, end, 0);
     while i < end {
         if is_below(points, marks, used, e, key, status[i]) {
             return i;
         }
-        i += 1;
+        i = after_clear(points, marks, used, ready, key, low, status, end, i + 1);
     }
     i
 }
