@@ -75,12 +75,12 @@ nothing-beyond seen r h = sym (List·getD-eq-default seen 0 h)
 
 module _ (n : ℕ) where
   length-tallied : (list : List ℕ) → length (tallied (zeros n) list) ≡ n
-  unfolding tallied noted zeros
+  unfolding tallied noted
   length-tallied [] = length-replicate n 0
   length-tallied (x ∷ l) = length-set (tallied (zeros n) l) x _ ∙ length-tallied l
 
   pub tallied-seen : (list : List ℕ) (r : ℕ) → r < n → seenAt (tallied (zeros n) list) r ≡ seenIn list r
-  unfolding tallied noted zeros seenAt seenIn
+  unfolding tallied noted seenAt seenIn
   tallied-seen [] r h = getD-replicate n r 0 0 h
   tallied-seen (x ∷ l) r h = by (ℕ-discrete r x) (tallied-seen l r h)
     where

@@ -7,9 +7,9 @@ use Rattle.events.specs.Binary64.{binary64}
 use Rattle.events.specs.Pool.{Pool, size, rowAt}
 use Rattle.checks.specs.declared.Check.{Check}
 use Rattle.checks.specs.declared.Check.the-variants.{Passed, Refused}
-use Rattle.checks.specs.Checks.{andThen}
+use Rattle.checks.specs.Checks.{andThen, unfitAt}
 use Rattle.contours.specs.Result.{results, resultEdges}
-use Rattle.contours.specs.Accept.{Room, toldLowest, roomy, accept}
+use Rattle.contours.specs.Accept.{Room, misplaced, halfListed, toldLowest, roomy, accept}
 use Rattle.acceptance.specs.declared.flaws.Flaw.{Flaw}
 use Rattle.acceptance.specs.declared.flaws.Flaw.the-variants.{Unfit, Misplaced, HalfListed}
 use Rattle.acceptance.specs.Flaws.{numberOf, flawed}
@@ -43,4 +43,12 @@ acceptSeen p seen list corners contours holes =
     andThen (toldFlaw p seen list Unfit)
     (andThen (toldFlaw p seen list Misplaced)
     (andThen (toldFlaw p seen list HalfListed)
+    (toldRoom p list corners contours holes)))
+
+-- after 1, as they are asked
+unfoldable pub acceptSized : Pool → List ℕ → (corners contours holes : ℕ) → Check
+acceptSized p list corners contours holes =
+    andThen (toldLowest 2 (unfitAt binary64 (rowAt p) (size p)) list)
+    (andThen (toldLowest 4 (misplaced binary64 (rowAt p) (size p) list) list)
+    (andThen (toldLowest 8 (halfListed binary64 (rowAt p) (size p) list) list)
     (toldRoom p list corners contours holes)))

@@ -15,7 +15,7 @@ seenIn (x ∷ l) r = cond (eqb x r) (again (seenIn l r)) (seenIn l r)
 
 -- ---- the same in an array that has a place for each record
 
-unfoldable pub zeros : ℕ → List ℕ
+abbrev pub zeros : ℕ → List ℕ
 zeros n = replicate n 0
 
 unfoldable pub seenAt : List ℕ → ℕ → ℕ

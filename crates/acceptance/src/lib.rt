@@ -1,8 +1,13 @@
 // Which lists connection takes: refusals 1, 2, 4, 8 and 5, each over all listed records before the next.
 ghost use mathlib.Core.Path.{_≡_};
+ghost use Prim.Native.Nat.{_≤_};
+ghost use lib.ListN.{length};
 ghost use Rattle.events.specs.Pool.{pool};
-ghost use Rattle.acceptance.specs.OnPool.{acceptPool, isRefused, acceptSeen};
+ghost use Rattle.checks.specs.Checks.{maxEvents, fewEvents};
+ghost use Rattle.acceptance.specs.Seen.{zeros};
+ghost use Rattle.acceptance.specs.OnPool.{acceptPool, isRefused, acceptSeen, acceptSized};
 use checks::Check;
+use checks::sizes::FEW;
 use checks::sizes::MAX_EVENTS;
 use checks::sizes::POOL_PLACE;
 use checks::sizes::pool_refused;
@@ -10,7 +15,6 @@ use flaws::Flaw;
 use lowest::check_flaw;
 use refusals::Refusal;
 use room::check_room;
-use seen::none_seen;
 use seen::tally;
 
 mod flaws;
@@ -57,6 +61,55 @@ fn check_list(
     check_room(points, marks, list, corners, contours, holes)
 }
 
+// By a tally in places where nothing is noted yet, one for each record of the pool.
+fn check_in(
+    points: &[[f64; 2]],
+    marks: &[[u32; 12]],
+    list: &[u32],
+    corners: usize,
+    contours: usize,
+    holes: usize,
+    seen: &mut [u32],
+) -> Check
+    requires { ⌜ (length (now points) ≤ length (now seen)) × (now seen ≡ zeros (length (now seen))) ⌝ }
+    ensures { λ r. ⌜ r ≡ acceptSized (pool (now (points .entry)) (now (marks .entry))) (now (list .entry)) corners contours holes ⌝ }
+{
+    tally(seen, list);
+    check_list(points, marks, seen, list, corners, contours, holes)
+}
+
+// With places for a small pool.
+fn check_few(
+    points: &[[f64; 2]],
+    marks: &[[u32; 12]],
+    list: &[u32],
+    corners: usize,
+    contours: usize,
+    holes: usize,
+) -> Check
+    requires { ⌜ length (now points) ≤ fewEvents ⌝ }
+    ensures { λ r. ⌜ r ≡ acceptSized (pool (now (points .entry)) (now (marks .entry))) (now (list .entry)) corners contours holes ⌝ }
+{
+    let mut seen = [0u32; FEW];
+    check_in(points, marks, list, corners, contours, holes, &mut seen)
+}
+
+// With places for any pool.
+fn check_many(
+    points: &[[f64; 2]],
+    marks: &[[u32; 12]],
+    list: &[u32],
+    corners: usize,
+    contours: usize,
+    holes: usize,
+) -> Check
+    requires { ⌜ length (now points) ≤ maxEvents ⌝ }
+    ensures { λ r. ⌜ r ≡ acceptSized (pool (now (points .entry)) (now (marks .entry))) (now (list .entry)) corners contours holes ⌝ }
+{
+    let mut seen = [0u32; MAX_EVENTS];
+    check_in(points, marks, list, corners, contours, holes, &mut seen)
+}
+
 // A list of records of the pool, with so many places for corners, contours and holes.
 pub fn accept(
     points: &[[f64; 2]],
@@ -80,7 +133,8 @@ pub fn accept(
             place: POOL_PLACE,
         });
     }
-    let mut seen = none_seen();
-    tally(&mut seen, list);
-    check_list(points, marks, &seen, list, corners, contours, holes)
+    if points.len() <= FEW {
+        return check_few(points, marks, list, corners, contours, holes);
+    }
+    check_many(points, marks, list, corners, contours, holes)
 }

@@ -1,16 +1,6 @@
 // How often each record is listed, as far as it matters: not at all, once, more than once.
 ghost use mathlib.Core.Path.{_≡_};
-ghost use lib.ListN.{length};
-ghost use Rattle.checks.specs.Checks.{maxEvents};
-ghost use Rattle.acceptance.specs.Seen.{again, seenAt, noted, tallied, zeros};
-use checks::sizes::MAX_EVENTS;
-
-// One place for each record that a pool may hold.
-pub fn none_seen() -> [u32; MAX_EVENTS]
-    ensures { λ r. ⌜ (maxEvents ≡ length r) × (r ≡ zeros maxEvents) ⌝ }
-{
-    [0u32; MAX_EVENTS]
-}
+ghost use Rattle.acceptance.specs.Seen.{again, seenAt, noted, tallied};
 
 pub fn seen_at(seen: &[u32], r: u32) -> u32
     ensures { λ n. ⌜ n ≡ seenAt (now (seen .entry)) r ⌝ }

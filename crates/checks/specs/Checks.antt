@@ -19,6 +19,10 @@ use Rattle.checks.specs.declared.Check.the-variants.{Passed, Refused}
 abbrev pub maxEvents : ℕ
 maxEvents = 4096
 
+-- those of a small pool
+abbrev pub fewEvents : ℕ
+fewEvents = 256
+
 -- the arrays unequal, or above the limit
 unfoldable pub missized : ℕ → ℕ → Bool
 missized points marks = not (eqb points marks) || ltb maxEvents points

@@ -7,6 +7,9 @@ ghost use Rattle.checks.specs.Checks.{missized, outside};
 // The most records that a pool holds.
 pub const MAX_EVENTS: usize = 4096;
 
+// The records of a small pool: to clear places for as many as any holds takes longer than to work through these.
+pub const FEW: usize = 256;
+
 // Where refusal 1 tells of the pool.
 pub const POOL_PLACE: u64 = 1;
 

@@ -3,16 +3,17 @@ ghost use mathlib.Core.Path.{_≡_};
 ghost use Prim.Native.Nat.{_≤_};
 ghost use lib.ListN.{length};
 ghost use Rattle.events.specs.Pool.{pool};
+ghost use Rattle.checks.specs.Checks.{fewEvents};
 ghost use Rattle.rows.specs.Rows as R;
 ghost use Rattle.tracing.specs.Tracing.{tracedOn};
 ghost use Rattle.connection.specs.Connection.{lent, left};
 ghost use Rattle.connection.specs.Steps.{Small, Spacious, laidDown, connectAccepted};
 use crate::Connected;
 use crate::answer::answer_of;
+use checks::sizes::FEW;
 use checks::sizes::MAX_EVENTS;
 use numbering::settle;
 use tabulation::tabulate;
-use tracing::FEW;
 use tracing::trace;
 
 // The table stands: `order` and `places` tell records by positions and positions by records.
@@ -67,7 +68,7 @@ fn connect_in(
     )
 }
 
-// With places for a short list, of a pool of any size.
+// With places for a short list of a small pool.
 fn connect_few(
     points: &[[f64; 2]],
     marks: &mut [[u32; 12]],
@@ -76,7 +77,41 @@ fn connect_few(
     contours: &mut [[u32; 6]],
     holes: &mut [u32],
 ) -> Connected
-    requires { ⌜ Small (pool (now points) (now marks)) (now list) × (length (now list) ≤ 256) ⌝ }
+    requires { ⌜ Small (pool (now points) (now marks)) (now list) × (length (now list) ≤ fewEvents) × (length (now points) ≤ fewEvents) ⌝ }
+    ensures { λ r. ⌜ left r (pool (now (points .entry)) (now (marks .exit))) (lent (now (corners .exit)) (now (contours .exit)) (now (holes .exit))) ≡ connectAccepted (pool (now (points .entry)) (now (marks .entry))) (now (list .entry)) (lent (now (corners .entry)) (now (contours .entry)) (now (holes .entry))) ⌝ }
+{
+    let mut order = [0u32; FEW];
+    let mut places = [0u32; FEW];
+    let row = [0u32; 4];
+    let mut rows = [row; FEW];
+    let point = [0.0; 2];
+    let mut at = [point; FEW];
+    let mut walked = [0u32; FEW];
+    connect_in(
+        points,
+        marks,
+        list,
+        corners,
+        contours,
+        holes,
+        &mut order,
+        &mut places,
+        &mut rows,
+        &mut at,
+        &mut walked,
+    )
+}
+
+// With places for a short list of any pool.
+fn connect_short(
+    points: &[[f64; 2]],
+    marks: &mut [[u32; 12]],
+    list: &[u32],
+    corners: &mut [[f64; 2]],
+    contours: &mut [[u32; 6]],
+    holes: &mut [u32],
+) -> Connected
+    requires { ⌜ Small (pool (now points) (now marks)) (now list) × (length (now list) ≤ fewEvents) ⌝ }
     ensures { λ r. ⌜ left r (pool (now (points .entry)) (now (marks .exit))) (lent (now (corners .exit)) (now (contours .exit)) (now (holes .exit))) ≡ connectAccepted (pool (now (points .entry)) (now (marks .entry))) (now (list .entry)) (lent (now (corners .entry)) (now (contours .entry)) (now (holes .entry))) ⌝ }
 {
     let mut order = [0u32; FEW];
@@ -101,7 +136,7 @@ fn connect_few(
     )
 }
 
-// With places for any list.
+// With places for any list of any pool.
 fn connect_many(
     points: &[[f64; 2]],
     marks: &mut [[u32; 12]],
@@ -135,7 +170,7 @@ fn connect_many(
     )
 }
 
-// Short lists are most, and to clear places for any takes longer than to connect them.
+// Short lists are most, in small pools above all, and to clear places for any takes longer than to connect them.
 pub fn connect_accepted(
     points: &[[f64; 2]],
     marks: &mut [[u32; 12]],
@@ -148,7 +183,10 @@ pub fn connect_accepted(
     ensures { λ r. ⌜ left r (pool (now (points .entry)) (now (marks .exit))) (lent (now (corners .exit)) (now (contours .exit)) (now (holes .exit))) ≡ connectAccepted (pool (now (points .entry)) (now (marks .entry))) (now (list .entry)) (lent (now (corners .entry)) (now (contours .entry)) (now (holes .entry))) ⌝ }
 {
     if list.len() <= FEW {
-        return connect_few(points, marks, list, corners, contours, holes);
+        if points.len() <= FEW {
+            return connect_few(points, marks, list, corners, contours, holes);
+        }
+        return connect_short(points, marks, list, corners, contours, holes);
     }
     connect_many(points, marks, list, corners, contours, holes)
 }

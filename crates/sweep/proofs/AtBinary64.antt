@@ -119,18 +119,12 @@ module _ {p : Pool} {w : List Bool} {queue : List ℕ} {t : Turn} (q : Queues p 
     unfolding takes
     same-size = turned binary64 stored pool-stored plain op past (takes here e (isTied binary64 stored here e)) e .grows .size
 
-    small : stored .size p ≤ length queue
-    small =
-        let few = q .small in
-        let room = q .room in
-        omega arith
-
     lined-there : Lined binary64 stored there (relined (there .store) (there .waits) (t .used) (there .used) (length queue) (take (t .waiting - 1) queue))
     unfolding isBefore beforeUsed
     lined-there =
         let shorter : take (length line - 1) line ≡ take (t .waiting - 1) queue = ap (λ k. take (k - 1) line) as-many ∙ take-take (t .waiting - 1) (t .waiting) queue (omega arith) in
         subst (λ l. Lined binary64 stored there (relined (there .store) (there .waits) (t .used) (there .used) (length queue) l)) shorter
-        (lined-step move-laws pool-stored pool-blanks plain op past here line (length queue) lined-here small e (isTied binary64 stored here e) n)
+        (lined-step move-laws pool-stored pool-blanks plain op past here line (length queue) lined-here (q .room) e (isTied binary64 stored here e) n)
 
     pub step-at : (p' : Pool) (w' : List Bool) (queue' status' taken' : List ℕ) (r : Turn) → state p' w' status' taken' r ≡ step binary64 stored plain op past here
         → take (r .waiting) queue' ≡ relined p' w' (t .used) (r .used) (length queue) (take (t .waiting - 1) queue) → r .waiting ≤ length queue' → length queue' ≡ length queue → Queues p' w' queue' r
@@ -139,39 +133,33 @@ module _ {p : Pool} {w : List Bool} {queue : List ℕ} {t : Turn} (q : Queues p 
         let same : there ≡ state p' w' status' taken' r = sym (is ∙ ap (stepBy binary64 stored plain op past here) n) in
         let x = subst (λ (z : State Pool). Lined binary64 stored z (relined (z .store) (z .waits) (t .used) (z .used) (length queue) (take (t .waiting - 1) queue))) same lined-there in
         let size = ap (λ (z : State Pool). stored .size (z .store)) (sym same) ∙ same-size in
-        let few = q .small in
+        let room = q .room in
+        let few = q .few in
         record {
           lined = subst (Lined binary64 stored (state p' w' [] [] r)) (sym line') (record { good = x .good; queued = x .queued; fresh = x .fresh });
           within = within;
-          room = long ∙ q .room;
-          small = omega arith;
+          room = omega arith;
+          few = omega arith;
         }
 
 -- the run has ended
 pub ended-at : {p : Pool} {w : List Bool} {queue : List ℕ} {t : Turn} → Queues p w queue t → Queues p w queue (endedTurn t)
 unfolding endedTurn isBefore
-ended-at q = let h = q .lined in record { lined = record { good = h .good; queued = h .queued; fresh = h .fresh }; within = q .within; room = q .room; small = q .small }
+ended-at q = let h = q .lined in record { lined = record { good = h .good; queued = h .queued; fresh = h .fresh }; within = q .within; room = q .room; few = q .few }
 
 -- ---- at the start
 
 module _ (p : Pool) (n : ℕ) (taken : List ℕ) (h : accept p n taken ≡ Passed) where
-  few-places : stored .size p ≤ maxEvents
-  few-places =
-      let sized = accepted p n taken h .0 in
-      let places = places-are p sized in
-      let few = sized .few in
-      omega arith
-
-  lined-first : (m : ℕ) → let w = replicate (stored .size p) true in Lined binary64 stored (state p w [] [] (linedTurn (startTurn n) m)) (relined p w 0 n maxEvents [])
+  lined-first : (room m : ℕ) → stored .size p ≤ room → let w = replicate (stored .size p) true in Lined binary64 stored (state p w [] [] (linedTurn (startTurn n) m)) (relined p w 0 n room [])
   unfolding start startTurn linedTurn isBefore beforeUsed
-  lined-first m =
-      let x = lined-start move-laws pool-stored pool-blanks p n maxEvents (good-accepted p n taken h) few-places in
+  lined-first room m fits =
+      let x = lined-start move-laws pool-stored pool-blanks p n room (good-accepted p n taken h) fits in
       let none : n - 0 ≡ n = omega arith in
       rw none (record { good = x .good; queued = x .queued; fresh = x .fresh })
 
   pub start-at : (queue queue' : List ℕ) (w : List Bool) (m : ℕ) (r : Turn) → w ≡ replicate (stored .size p) true → r ≡ linedTurn (startTurn n) m
-      → take m queue' ≡ relined p w 0 n (length queue) (take 0 queue) → m ≤ length queue' → length queue' ≡ length queue → length queue ≡ maxEvents → Queues p w queue' r
+      → take m queue' ≡ relined p w 0 n (length queue) (take 0 queue) → m ≤ length queue' → length queue' ≡ length queue → (stored .size p ≤ length queue) × (length queue ≤ maxEvents) → Queues p w queue' r
   unfolding linedTurn
-  start-at queue queue' w m r all is told within same long =
-      let x = subst (λ v. Lined binary64 stored (state p v [] [] (linedTurn (startTurn n) m)) (relined p v 0 n maxEvents [])) (sym all) (lined-first m) in
-      rw is (record { lined = rw (told, long) x; within = within; room = same ∙ long; small = few-places })
+  start-at queue queue' w m r all is told within same fits =
+      let x = subst (λ v. Lined binary64 stored (state p v [] [] (linedTurn (startTurn n) m)) (relined p v 0 n (length queue) [])) (sym all) (lined-first (length queue) m (fits .0)) in
+      rw is (record { lined = rw told x; within = within; room = omega (arith, same, fits .0); few = omega (arith, same, fits .1) })

@@ -85,7 +85,7 @@ module _ (w : List Bool) (status taken : List ℕ) (t : Turn) (e : ℕ) (fits : 
           rw ht (record { more = omega arith; rest = drop-set-lt (r .count) taken (t .count) e (omega arith) })
 
 pub queue-room : (p : Pool) (w : List Bool) (queue : List ℕ) (t : Turn) → Queues p w queue t → (t .waiting - 1 ≤ length queue) × (length queue ≤ maxEvents)
-queue-room p w queue t q = (omega (arith, q .within), omega (arith, q .room))
+queue-room p w queue t q = (omega (arith, q .within), q .few)
 
 -- ---- how many wait is of the turn alone
 

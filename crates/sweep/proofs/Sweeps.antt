@@ -29,7 +29,7 @@ use Rattle.sweep.specs.State.{State, start}
 use Rattle.sweep.specs.Bounds.{rightmost, isPast, past}
 use Rattle.sweep.specs.Run.{run, subdivide, divisions}
 use Rattle.sweep.specs.OnPool.{After, after, sizes, accept, outcomeOf, answerOf, afterRun, asLent, afterChecks, subdividePool}
-use Rattle.sweep.specs.Turn.{state, startTurn, linedTurn, everywhere, Fits, Beyond}
+use Rattle.sweep.specs.Turn.{state, startTurn, linedTurn, Lends, Fits, Beyond}
 use Rattle.sweep.proofs.Flags.{trues-all}
 use Rattle.sweep.proofs.Ends.{counted}
 
@@ -66,35 +66,41 @@ prefix zero m a h = refl
 prefix (suc n) zero a h = absurd (omega arith)
 prefix (suc n) (suc m) a h = ap (λ l. a ∷ l) (prefix n m a (omega arith))
 
--- as many flags as the pool has places
-pub flags-at-start : (n : ℕ) (w : List Bool) → n ≤ maxEvents → w ≡ everywhere true → take n w ≡ replicate n true
-unfolding everywhere
-flags-at-start n w h e = rw e (prefix n maxEvents true h)
+-- the flags of the pool's places, in an array of flags for so many
+module _ (n : ℕ) (w : List Bool) (queue status : List ℕ) (l : Lends n w queue status) where
+  pub enough-flags : n ≤ length w
+  enough-flags = rw (l .flags, length-replicate) (l .room)
 
-pub as-many-flags : (n : ℕ) (w : List Bool) → n ≤ maxEvents → w ≡ everywhere true → n ≡ length (take n w)
-as-many-flags n w h e = rw (flags-at-start n w h e, length-replicate)
+  pub flags-at-start : take n w ≡ replicate n true
+  flags-at-start = rw (l .flags) (prefix n (l .places) true (l .room))
 
-pub long-enough : {A : Type 0} (a : A) (l : List A) → l ≡ everywhere a → length l ≡ maxEvents
-unfolding everywhere
-long-enough a l e = rw (e, length-replicate)
+  pub as-many-flags : n ≡ length (take n w)
+  as-many-flags = rw (flags-at-start, length-replicate)
 
--- the flags of the pool's places, in an array of flags for every place that a pool can have
-pub enough-flags : (n : ℕ) (w : List Bool) → n ≤ maxEvents → w ≡ everywhere true → n ≤ length w
-enough-flags n w h e = rw (long-enough true w e) h
+-- the same of a pool, and its queue's room
+module _ (p : Pool) (w : List Bool) (queue status : List ℕ) (s : Sized (length (p .points)) (length (p .marks))) (l : Lends (length (p .points)) w queue status) where
+  pub all-flags : take (length (p .points)) w ≡ replicate (stored .size p) true
+  all-flags = flags-at-start (length (p .points)) w queue status l ∙ ap (λ n. replicate n true) (places-are p s)
 
-pub all-flags : (p : Pool) (w : List Bool) → Sized (length (p .points)) (length (p .marks)) → w ≡ everywhere true → take (length (p .points)) w ≡ replicate (stored .size p) true
-all-flags p w s e = flags-at-start (length (p .points)) w (s .few) e ∙ ap (λ n. replicate n true) (places-are p s)
+  pub queue-at-start : (stored .size p ≤ length queue) × (length queue ≤ maxEvents)
+  queue-at-start =
+      let places = places-are p s in
+      let long = l .queued in
+      let room = l .room in
+      (omega arith, omega (arith, l .few))
 
 -- the queue is filled before the run
 pub begun : (n waiting : ℕ) (t r : Turn) → r ≡ linedTurn t waiting → t ≡ startTurn n → r ≡ linedTurn (startTurn n) waiting
 begun n waiting t r h e = h ∙ ap (λ u. linedTurn u waiting) e
 
-pub fits-at-start : (n loaded waiting : ℕ) (w : List Bool) (status taken : List ℕ) (t : Turn) → n ≤ maxEvents → n ≡ length taken → w ≡ replicate n true → status ≡ everywhere 0 → t ≡ linedTurn (startTurn loaded) waiting → Fits w status taken t
+pub fits-at-start : (n loaded waiting : ℕ) (w : List Bool) (queue status taken : List ℕ) (t : Turn) → Lends n w queue status → n ≡ length taken → t ≡ linedTurn (startTurn loaded) waiting → Fits (take n w) status taken t
 unfolding startTurn linedTurn
-fits-at-start n loaded waiting w status taken t few is hw hs ht =
+fits-at-start n loaded waiting w queue status taken t l is ht =
     let all = trues-all n in
-    let long = long-enough 0 status hs in
-    rw (ht, hw) (record { counted = omega (arith, all, is); ranked = omega arith; room = omega (arith, long, is, few); few = omega (arith, long) })
+    let long = l .ranked in
+    let enough = l .room in
+    let few = l .few in
+    rw (ht, flags-at-start n w queue status l) (record { counted = omega (arith, all, is); ranked = omega arith; room = omega (arith, long, is, enough); few = omega (arith, long, few) })
 
 -- ---- the end
 

@@ -48,10 +48,6 @@ isStopped (Refused r) = true
 
 -- ---- what keeps within the arrays
 
--- one value for every place that a pool can have
-unfoldable pub everywhere : {A : Type 0} → A → List A
-everywhere a = replicate maxEvents a
-
 -- the flags that are true
 unfoldable pub trues : List Bool → ℕ
 trues [] = zero
@@ -64,12 +60,21 @@ pub record Fits (waits : List Bool) (status taken : List ℕ) (t : Turn) : Type 
   pub room : length taken ≤ length status
   pub few : length status ≤ maxEvents
 
--- The queue stands in the first places of its array, which has one for every place of the pool.
+-- The queue stands in the first places of its array, which has one for every place of the pool and no more than a pool can have.
 pub record Queues (p : Pool) (waits : List Bool) (queue : List ℕ) (t : Turn) : Type 0 where
   pub lined : Lined binary64 stored (state p waits [] [] t) (take (t .waiting) queue)
   pub within : t .waiting ≤ length queue
-  pub room : length queue ≡ maxEvents
-  pub small : stored .size p ≤ maxEvents
+  pub room : stored .size p ≤ length queue
+  pub few : length queue ≤ maxEvents
+
+-- Arrays for the run of a pool of n places: of one length, at least n and no more than a pool can have; every flag is set.
+pub record Lends (n : ℕ) (waits : List Bool) (queue status : List ℕ) : Type 0 where
+  pub places : ℕ
+  pub room : n ≤ places
+  pub few : places ≤ maxEvents
+  pub flags : waits ≡ replicate places true
+  pub queued : length queue ≡ places
+  pub ranked : length status ≡ places
 
 -- A change of pool, status and turn is the definition's, whatever waits and was taken.
 pub record Does (f : State Pool → State Pool) (p : Pool) (status : List ℕ) (t : Turn) (p' : Pool) (status' : List ℕ) (t' : Turn) : Type 0 where

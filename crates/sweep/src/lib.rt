@@ -1,13 +1,14 @@
 // The sweep (`subdivide_segments.rs`).
 ghost use mathlib.Core.Path.{_≡_};
-ghost use mathlib.Core.Bool.{Bool};
+ghost use Prim.Native.Nat.{_≤_};
 ghost use lib.ListN.{length};
 ghost use Rattle.events.specs.Binary64.{binary64, plain};
 ghost use Rattle.events.specs.Pool.{pool, stored};
 ghost use Rattle.checks.specs.declared.Check.the-variants.{Passed};
+ghost use Rattle.checks.specs.Checks.{maxEvents, fewEvents};
 ghost use Rattle.sweep.specs.OnPool.{after, sizes, accept, outcomeOf, afterRun, subdividePool};
 ghost use Rattle.sweep.specs.Run as Spec;
-ghost use Rattle.sweep.specs.Turn.{everywhere};
+ghost use Rattle.sweep.specs.Turn.{Lends};
 
 mod bounds;
 mod event;
@@ -18,6 +19,7 @@ mod turn;
 use bounds::bounds_of;
 use checks::Check;
 use checks::check_loaded;
+use checks::sizes::FEW;
 use checks::sizes::MAX_EVENTS;
 use checks::sizes::POOL_PLACE;
 use checks::sizes::pool_refused;
@@ -88,43 +90,29 @@ fn outcome_of(stop: Stop) -> Outcome
     }
 }
 
-// Every place of a pool waits.
-fn all_waiting() -> [bool; MAX_EVENTS]
-    ensures { λ r. ⌜ r ≡ everywhere Bool.true ⌝ }
-{
-    [true; MAX_EVENTS]
-}
-
-// Room for as many numbers as a pool has places.
-fn no_members() -> [u32; MAX_EVENTS]
-    ensures { λ r. ⌜ r ≡ everywhere 0 ⌝ }
-{
-    [0u32; MAX_EVENTS]
-}
-
 // The run, from all loaded records waiting, with one step more than there are places.
-fn sweep(
+fn sweep_in(
     points: &mut [[f64; 2]],
     marks: &mut [[u32; 12]],
     loaded: u32,
     operation: Operation,
     taken: &mut [u32],
+    waits: &mut [bool],
+    queue: &mut [u32],
+    status: &mut [u32],
 ) -> Swept
-    requires { ⌜ accept (pool (now points) (now marks)) loaded (now taken) ≡ Passed ⌝ }
+    requires { ⌜ (accept (pool (now points) (now marks)) loaded (now taken) ≡ Passed) × Lends (length (now points)) (now waits) (now queue) (now status) ⌝ }
     ensures { λ r. ⌜ after r (pool (now (points .exit)) (now (marks .exit))) (now (taken .exit)) ≡ afterRun (Spec.subdivide binary64 stored plain operation (pool (now (points .entry)) (now (marks .entry))) loaded) loaded (now (taken .entry)) ⌝ }
 {
     let size = points.len();
     let bounds = bounds_of(points, marks, loaded);
-    let mut waits = all_waiting();
-    let mut queue = no_members();
-    let mut status = no_members();
-    let waiting = requeue(points, marks, &waits[..size], 0, loaded, &mut queue, 0);
+    let waiting = requeue(points, marks, &waits[..size], 0, loaded, queue, 0);
     let last = run(
         points,
         marks,
         &mut waits[..size],
-        &mut queue,
-        &mut status,
+        queue,
+        status,
         taken,
         line_up(start(loaded), waiting),
         operation,
@@ -139,6 +127,75 @@ fn sweep(
         tied: last.tied,
         outcome: outcome_of(stop),
     }
+}
+
+// With places for a small pool.
+fn sweep_few(
+    points: &mut [[f64; 2]],
+    marks: &mut [[u32; 12]],
+    loaded: u32,
+    operation: Operation,
+    taken: &mut [u32],
+) -> Swept
+    requires { ⌜ (accept (pool (now points) (now marks)) loaded (now taken) ≡ Passed) × (length (now points) ≤ fewEvents) ⌝ }
+    ensures { λ r. ⌜ after r (pool (now (points .exit)) (now (marks .exit))) (now (taken .exit)) ≡ afterRun (Spec.subdivide binary64 stored plain operation (pool (now (points .entry)) (now (marks .entry))) loaded) loaded (now (taken .entry)) ⌝ }
+{
+    let mut waits = [true; FEW];
+    let mut queue = [0u32; FEW];
+    let mut status = [0u32; FEW];
+    sweep_in(
+        points,
+        marks,
+        loaded,
+        operation,
+        taken,
+        &mut waits,
+        &mut queue,
+        &mut status,
+    )
+}
+
+// With places for any pool.
+fn sweep_many(
+    points: &mut [[f64; 2]],
+    marks: &mut [[u32; 12]],
+    loaded: u32,
+    operation: Operation,
+    taken: &mut [u32],
+) -> Swept
+    requires { ⌜ (accept (pool (now points) (now marks)) loaded (now taken) ≡ Passed) × (length (now points) ≤ maxEvents) ⌝ }
+    ensures { λ r. ⌜ after r (pool (now (points .exit)) (now (marks .exit))) (now (taken .exit)) ≡ afterRun (Spec.subdivide binary64 stored plain operation (pool (now (points .entry)) (now (marks .entry))) loaded) loaded (now (taken .entry)) ⌝ }
+{
+    let mut waits = [true; MAX_EVENTS];
+    let mut queue = [0u32; MAX_EVENTS];
+    let mut status = [0u32; MAX_EVENTS];
+    sweep_in(
+        points,
+        marks,
+        loaded,
+        operation,
+        taken,
+        &mut waits,
+        &mut queue,
+        &mut status,
+    )
+}
+
+// With as few places as will do.
+fn sweep(
+    points: &mut [[f64; 2]],
+    marks: &mut [[u32; 12]],
+    loaded: u32,
+    operation: Operation,
+    taken: &mut [u32],
+) -> Swept
+    requires { ⌜ accept (pool (now points) (now marks)) loaded (now taken) ≡ Passed ⌝ }
+    ensures { λ r. ⌜ after r (pool (now (points .exit)) (now (marks .exit))) (now (taken .exit)) ≡ afterRun (Spec.subdivide binary64 stored plain operation (pool (now (points .entry)) (now (marks .entry))) loaded) loaded (now (taken .entry)) ⌝ }
+{
+    if points.len() <= FEW {
+        return sweep_few(points, marks, loaded, operation, taken);
+    }
+    sweep_many(points, marks, loaded, operation, taken)
 }
 
 // Sweeps the first `loaded` records of a pool; the events taken stand in `taken`, from its first place.

@@ -3,15 +3,14 @@
 ghost use mathlib.Core.Path.{_≡_};
 ghost use Prim.Native.Nat.{_≤_};
 ghost use lib.ListN.{length};
+ghost use Rattle.checks.specs.Checks.{fewEvents};
 ghost use Rattle.rows.specs.Rows.{lent};
 ghost use Rattle.tracing.specs.Tracing.{sheet, tracedOn};
 ghost use Rattle.tracing.specs.Parts.{tracedBy};
+use checks::sizes::FEW;
 use checks::sizes::MAX_EVENTS;
 use holes::hold_contours;
 use starts::trace_starts;
-
-// Places for a small table: to clear places for any takes longer than to trace it.
-pub const FEW: usize = 256;
 
 // How many places of each array are in use, and what stopped the contours.
 pub struct Traced {
@@ -57,7 +56,7 @@ fn trace_few(
     contours: &mut [[u32; 6]],
     holes: &mut [u32],
 ) -> Traced
-    requires { ⌜ length (now rows) ≤ 256 ⌝ }
+    requires { ⌜ length (now rows) ≤ fewEvents ⌝ }
     ensures { λ r. ⌜ sheet (now (walked .exit)) (now (corners .exit)) (now (contours .exit)) (now (holes .exit)) r ≡ tracedOn (lent (now (rows .entry)) (now (at .entry))) (now (walked .entry)) (now (corners .entry)) (now (contours .entry)) (now (holes .entry)) ⌝ }
 {
     let nest = [0u32; 4];
