@@ -10,14 +10,17 @@ use lib.Seq.{sets, drop-cons}
 use Rattle.class.specs.declared.Operation.{Operation}
 use Rattle.refusals.specs.declared.Refusal.{Refusal}
 use Rattle.sheet.specs.declared.edges.Edge.{Edge}
+use Rattle.sheet.specs.declared.layers.Count as count
 use Rattle.sheet.specs.declared.layers.Section.{Section}
 use Rattle.sheet.specs.declared.layers.Layer as layer
 use Rattle.sheet.specs.declared.operations.Found as found
+use Rattle.sheet.specs.declared.Told.{Told}
 use Rattle.sheet.specs.declared.Told.the-variants.{Read, Refused as ToldRefused}
-use Rattle.sheet.specs.Sheet.{subjectWord, clipWord}
-use Rattle.sheet.specs.Reading.{Whole, Broken, edgesOf, operationOf, layerOf, afterClip, afterSubject, afterOperation, readSheet}
-use Rattle.sheet.specs.Shown.{shownLayer, countedLayer, shownOperation}
-use Rattle.sheet.specs.Stored.{After, endsOf, labelsOf, left, leave}
+use Rattle.sheet.specs.Sheet.{Sheet, subjectWord, clipWord}
+use Rattle.sheet.specs.Reading.{Layer, Whole, Broken, edgesOf, operationOf, countOf, layerOf, Reading, Accepted, afterClip, afterSubject, afterOperation, readSheet}
+use Rattle.sheet.specs.Shown.{shownCount, begun, shownLayer, shownOperation, told}
+use Rattle.sheet.specs.Stored.{endsOf}
+use Rattle.sheet.proofs.Sections.{whole-begun}
 
 pub ends-are : (e : Edge) (x y z w : Float) → x ≡ ofBits binary64 (e .from .x) → y ≡ ofBits binary64 (e .from .y) → z ≡ ofBits binary64 (e .to .x) → w ≡ ofBits binary64 (e .to .y) → x ∷ y ∷ z ∷ w ∷ [] ≡ endsOf e
 unfolding endsOf
@@ -49,48 +52,81 @@ put-both f g b c d l m n h e k =
     let q : 0 + length (map f l) ≡ n = omega (arith, length-map l f) in
     rw (sets-append b 0 (map f l) (map g m), q, ← e) k
 
-module _ (b : List ℕ) (o : Operation) (subject clip : List Edge) (n m p : ℕ) (hn : n ≡ length subject) (hm : m ≡ length clip) (ends : List (List Float)) (labels : List (List ℕ)) where
-  pub clip-more : p < length b → left (ToldRefused (record { number = 10; place = 4 + (n + m) })) ends labels ≡ leave (afterClip o subject (Whole clip (drop p b))) ends labels
-  unfolding leave afterClip
+-- ---- what was read of a layer is stored
+
+module _ {A : Type 0} (f : Edge → A) (a : List A) (place : ℕ) (b word : List ℕ) (at most : ℕ) (r : count.Count) (h : shownCount b r ≡ countOf word most (drop at b)) where
+  pub stored-read : (n first : ℕ) → r ≡ count.the-variants.Edges n first → (c : List A) → c ≡ sets a place (map f (edgesOf n (drop first b) .list)) → c ≡ sets a place (map f (begun (countOf word most (drop at b))))
+  stored-read n first e c g = rw (← h, e) g
+
+  pub stored-many : r ≡ count.the-variants.Many → a ≡ sets a place (map f (begun (countOf word most (drop at b))))
+  stored-many e = rw (← h, e)
+
+  pub stored-malformed : r ≡ count.the-variants.Malformed → a ≡ sets a place (map f (begun (countOf word most (drop at b))))
+  stored-malformed e = rw (← h, e)
+
+-- ---- the answers, each by what decides it
+
+module _ (b : List ℕ) (o : Operation) (subject clip : List Edge) (n m p : ℕ) (hn : n ≡ length subject) (hm : m ≡ length clip) where
+  pub clip-more : p < length b → ToldRefused (record { number = 10; place = 4 + (n + m) }) ≡ told (afterClip o subject (Whole clip (drop p b)))
+  unfolding afterClip
   clip-more h = rw (drop-cons b p 0 h, hn, hm)
 
-  module _ (h : length b ≤ p) (ends₁ ends₂ : List (List Float)) (labels₁ labels₂ : List (List ℕ)) where
-    pub clip-read : ends₁ ≡ sets ends 0 (map endsOf subject) → labels₁ ≡ sets labels 0 (map (labelsOf 1) subject) → ends₂ ≡ sets ends₁ n (map endsOf clip) → labels₂ ≡ sets labels₁ n (map (labelsOf 0) clip) → left (Read o n m) ends₂ labels₂ ≡ leave (afterClip o subject (Whole clip (drop p b))) ends labels
-    unfolding leave afterClip
-    clip-read e f g k =
-        rw (drop-of-length-le b {i = p} h, put-both endsOf endsOf ends ends₁ ends₂ subject clip n hn e g, put-both (labelsOf 1) (labelsOf 0) labels labels₁ labels₂ subject clip n hn f k, hn, hm)
+  pub clip-read : length b ≤ p → Read o n m ≡ told (afterClip o subject (Whole clip (drop p b)))
+  unfolding afterClip
+  clip-read h = rw (drop-of-length-le b {i = p} h, hn, hm)
 
--- ---- a layer decides
+pub no-line : (b : List ℕ) (s : found.Found) → shownOperation b s ≡ operationOf b → s ≡ found.the-variants.Wrong → ToldRefused (record { number = 10; place = 1 }) ≡ told (readSheet b)
+unfolding readSheet afterOperation
+no-line b s h e = rw (← h, e)
 
-pub counted-whole : (b : List ℕ) (r : layer.Layer) (x : Section) → countedLayer b r → r ≡ layer.the-variants.Whole x → x .count ≡ length (edgesOf (x .count) (drop (x .first) b) .list)
-counted-whole b r x h e = rw e at h
-
-pub no-line : (b : List ℕ) (s : found.Found) → shownOperation b s ≡ operationOf b → s ≡ found.the-variants.Wrong → (ends : List (List Float)) (labels : List (List ℕ)) → left (ToldRefused (record { number = 10; place = 1 })) ends labels ≡ leave (readSheet b) ends labels
-unfolding leave readSheet afterOperation
-no-line b s h e ends labels = rw (← h, e)
-
-module _ (b : List ℕ) (o : Operation) (r : layer.Layer) (ends : List (List Float)) (labels : List (List ℕ)) where
-  module _ (l : List Edge) (n p : ℕ) (hn : n ≡ length l) (hr : shownLayer b r ≡ layerOf clipWord (256 - n) (3 + n) (drop p b)) where
-    by-clip : afterClip o l (shownLayer b r) ≡ afterSubject o (Whole l (drop p b))
+module _ (b : List ℕ) (o : Operation) (r : layer.Layer) (k : List Edge) where
+  module _ (l : List Edge) (n p : ℕ) (hn : n ≡ length l) (hr : shownLayer k b r ≡ layerOf clipWord (256 - n) (3 + n) (drop p b)) where
+    by-clip : afterClip o l (shownLayer k b r) ≡ afterSubject o (Whole l (drop p b))
     unfolding afterSubject
     by-clip = rw (hr, hn)
 
-    pub subject-on : (x : Section) → r ≡ layer.the-variants.Whole x → (y : After) → y ≡ leave (afterClip o l (Whole (edgesOf (x .count) (drop (x .first) b) .list) (drop (x .after) b))) ends labels → y ≡ leave (afterSubject o (Whole l (drop p b))) ends labels
+    pub subject-on : (x : Section) → r ≡ layer.the-variants.Whole x → (y : Told) → y ≡ told (afterClip o l (Whole k (drop (x .after) b))) → y ≡ told (afterSubject o (Whole l (drop p b)))
     subject-on x e y g = rw (← by-clip, e) g
 
-    pub subject-broken : (k : Refusal) → r ≡ layer.the-variants.Broken k → left (ToldRefused k) ends labels ≡ leave (afterSubject o (Whole l (drop p b))) ends labels
-    unfolding leave afterClip
-    subject-broken k e = rw (← by-clip, e)
+    pub subject-broken : (q : Refusal) → r ≡ layer.the-variants.Broken q → ToldRefused q ≡ told (afterSubject o (Whole l (drop p b)))
+    unfolding afterClip
+    subject-broken q e = rw (← by-clip, e)
 
-  module _ (s : found.Found) (hs : shownOperation b s ≡ operationOf b) where
-    module _ (p : ℕ) (es : s ≡ found.the-variants.Line o p) (hr : shownLayer b r ≡ layerOf subjectWord 256 2 (drop p b)) where
-      by-subject : afterSubject o (shownLayer b r) ≡ readSheet b
-      unfolding readSheet afterOperation
-      by-subject = rw (← hs, es, ← hr)
+  module _ (s : found.Found) (hs : shownOperation b s ≡ operationOf b) (p : ℕ) (es : s ≡ found.the-variants.Line o p) (hr : shownLayer k b r ≡ layerOf subjectWord 256 2 (drop p b)) where
+    by-subject : afterSubject o (shownLayer k b r) ≡ readSheet b
+    unfolding readSheet afterOperation
+    by-subject = rw (← hs, es, ← hr)
 
-      pub sheet-on : (x : Section) → r ≡ layer.the-variants.Whole x → (y : After) → y ≡ leave (afterSubject o (Whole (edgesOf (x .count) (drop (x .first) b) .list) (drop (x .after) b))) ends labels → y ≡ leave (readSheet b) ends labels
-      sheet-on x e y g = rw (← by-subject, e) g
+    pub sheet-on : (x : Section) → r ≡ layer.the-variants.Whole x → afterSubject o (Whole k (drop (x .after) b)) ≡ readSheet b
+    sheet-on x e = rw e at by-subject
 
-      pub sheet-broken : (k : Refusal) → r ≡ layer.the-variants.Broken k → left (ToldRefused k) ends labels ≡ leave (readSheet b) ends labels
-      unfolding leave afterSubject
-      sheet-broken k e = rw (← by-subject, e)
+    pub sheet-broken : (q : Refusal) → r ≡ layer.the-variants.Broken q → ToldRefused q ≡ told (readSheet b)
+    unfolding afterSubject
+    sheet-broken q e = rw (← by-subject, e)
+
+-- ---- an accepted sheet is stored
+
+pub refused-none : (x : Reading) (q : Refusal) → ToldRefused q ≡ told x → (s : Sheet) → x ≡ Accepted s → ⊥
+refused-none x q h s e =
+    let f : ToldRefused q ≡ told (Accepted s) = rw e at h in
+    let z : _≡_ {A = ℕ} 0 1 = cc in
+    omega arith
+
+-- its layers are those that were read
+parts : (o : Operation) (l : List Edge) (u : List ℕ) (s : Sheet) → afterSubject o (Whole l u) ≡ Accepted s → (l ≡ s .subject) × (begun (countOf clipWord (256 - length l) u) ≡ s .clip)
+unfolding afterSubject afterClip
+parts o l u s e = go (layerOf clipWord (256 - length l) (3 + length l) u) refl e
+  where
+    go : (x : Layer) → layerOf clipWord (256 - length l) (3 + length l) u ≡ x → afterClip o l x ≡ Accepted s → (l ≡ s .subject) × (begun (countOf clipWord (256 - length l) u) ≡ s .clip)
+    go (Whole m []) h f =
+        let same : record { operation = o; subject = l; clip = m } ≡ s = cc in
+        (ap (λ (x : Sheet). x .subject) same, whole-begun clipWord (256 - length l) (3 + length l) u m [] h ∙ ap (λ (x : Sheet). x .clip) same)
+    go (Whole m (c ∷ v)) h f = let z : _≡_ {A = ℕ} 0 1 = cc in absurd (omega arith)
+    go (Broken n k) h f = let z : _≡_ {A = ℕ} 0 1 = cc in absurd (omega arith)
+
+module _ {A : Type 0} (f g : Edge → A) (a c d : List A) (b : List ℕ) (o : Operation) (l : List Edge) (n p : ℕ) (hn : n ≡ length l) (hb : afterSubject o (Whole l (drop p b)) ≡ readSheet b) where
+  pub both-stored : c ≡ sets a 0 (map f l) → d ≡ sets c n (map g (begun (countOf clipWord (256 - n) (drop p b)))) → (s : Sheet) → readSheet b ≡ Accepted s → d ≡ sets a 0 (map f (s .subject) ++ map g (s .clip))
+  both-stored hc hd s e =
+      let q = parts o l (drop p b) s (hb ∙ e) in
+      let clip : begun (countOf clipWord (256 - n) (drop p b)) ≡ s .clip = ap (λ (i : ℕ). begun (countOf clipWord (256 - i) (drop p b))) hn ∙ q .1 in
+      put-both f g a c d (s .subject) (s .clip) n (hn ∙ ap length (q .0)) (rw (← q .0) hc) (rw (← clip) hd)

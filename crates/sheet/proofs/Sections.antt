@@ -18,7 +18,7 @@ use Rattle.sheet.specs.declared.layers.Count as count
 use Rattle.sheet.specs.declared.layers.Section.{Section}
 use Rattle.sheet.specs.declared.layers.Layer as layer
 use Rattle.sheet.specs.Reading.{Parsed, Got, Wrong, Edges, edgeOf, onEdge, edgesOf, Layer, Whole, Broken, wholeBy, Counted, Count, Many, Malformed, numeral, countBy, countFrom, countOf, layerBy, layerOf}
-use Rattle.sheet.specs.Shown.{shownEdge, shownCount, shownLayer, countedLayer}
+use Rattle.sheet.specs.Shown.{shownEdge, shownCount, begun, shownLayer, countedLayer}
 
 -- ---- one edge
 
@@ -125,9 +125,6 @@ module _ (b : List ℕ) (n line first k : ℕ) (h : k ≡ length (edgesOf n (dro
       go zero z = absurd (omega arith)
       go (suc m) z = refl
 
-  pub whole-all : n ≤ k → n ≡ length (edgesOf n (drop first b) .list)
-  whole-all l = omega (arith, all n (drop first b))
-
   pub whole-read : n ≤ k → (p : ℕ) → drop p b ≡ edgesOf n (drop first b) .rest → Whole (edgesOf n (drop first b) .list) (drop p b) ≡ wholeBy (line + 1) (edgesOf n (drop first b) .list) (edgesOf n (drop first b) .missing) (edgesOf n (drop first b) .rest)
   unfolding wholeBy
   whole-read l p e =
@@ -136,9 +133,13 @@ module _ (b : List ℕ) (n line first k : ℕ) (h : k ≡ length (edgesOf n (dro
 
 -- its count decides
 module _ (b word : List ℕ) (at most line : ℕ) (r : count.Count) (h : shownCount b r ≡ countOf word most (drop at b)) where
-  pub layer-read : (n first : ℕ) → r ≡ count.the-variants.Edges n first → (x : Layer) → x ≡ wholeBy (line + 1) (edgesOf n (drop first b) .list) (edgesOf n (drop first b) .missing) (edgesOf n (drop first b) .rest) → x ≡ layerOf word most line (drop at b)
-  unfolding layerOf layerBy
-  layer-read n first e x g = rw (← h, e) g
+  module _ (n first : ℕ) (e : r ≡ count.the-variants.Edges n first) (x : layer.Layer) where
+    pub layer-read : shownLayer (edgesOf n (drop first b) .list) b x ≡ wholeBy (line + 1) (edgesOf n (drop first b) .list) (edgesOf n (drop first b) .missing) (edgesOf n (drop first b) .rest) → shownLayer (begun (countOf word most (drop at b))) b x ≡ layerOf word most line (drop at b)
+    unfolding layerOf layerBy
+    layer-read g = rw (← h, e) g
+
+    pub layer-counted : countedLayer (edgesOf n (drop first b) .list) x → countedLayer (begun (countOf word most (drop at b))) x
+    layer-counted g = rw (← h, e) g
 
   pub layer-many : r ≡ count.the-variants.Many → Broken 1 line ≡ layerOf word most line (drop at b)
   unfolding layerOf layerBy
@@ -182,20 +183,30 @@ unfolding wholeBy
 whole-list line zero l s k t e = cc
 whole-list line (suc m) l s k t e = let z : _≡_ {A = ℕ} 0 1 = cc in absurd (omega arith)
 
-pub layer-few : (word : List ℕ) (most line : ℕ) (s : List ℕ) (l : List Edge) (t : List ℕ) → layerOf word most line s ≡ Whole l t → length l ≤ most
+-- the edges of a whole layer are those that were read
+pub whole-begun : (word : List ℕ) (most line : ℕ) (s : List ℕ) (l : List Edge) (t : List ℕ) → layerOf word most line s ≡ Whole l t → begun (countOf word most s) ≡ l
 unfolding layerOf layerBy
-layer-few word most line s l t e = go (countOf word most s) refl e
+whole-begun word most line s l t e = go (countOf word most s) e
   where
-    go : (x : Counted) → countOf word most s ≡ x → layerBy line x ≡ Whole l t → length l ≤ most
-    go (Count n u) h f =
-        let q : edgesOf n u .list ≡ l = whole-list (line + 1) (edgesOf n u .missing) (edgesOf n u .list) (edgesOf n u .rest) l t f in
-        omega (arith, ap length q, all n u, count-few most n u word s h)
-    go Many h f = let z : _≡_ {A = ℕ} 0 1 = cc in absurd (omega arith)
-    go Malformed h f = let z : _≡_ {A = ℕ} 0 1 = cc in absurd (omega arith)
+    go : (x : Counted) → layerBy line x ≡ Whole l t → begun x ≡ l
+    go (Count n u) f = whole-list (line + 1) (edgesOf n u .missing) (edgesOf n u .list) (edgesOf n u .rest) l t f
+    go Many f = let z : _≡_ {A = ℕ} 0 1 = cc in absurd (omega arith)
+    go Malformed f = let z : _≡_ {A = ℕ} 0 1 = cc in absurd (omega arith)
+
+begun-few : (word : List ℕ) (most : ℕ) (s : List ℕ) → length (begun (countOf word most s)) ≤ most
+begun-few word most s = go (countOf word most s) refl
+  where
+    go : (x : Counted) → countOf word most s ≡ x → length (begun x) ≤ most
+    go (Count n u) h = omega (arith, all n u, count-few most n u word s h)
+    go Many h = omega arith
+    go Malformed h = omega arith
+
+pub layer-few : (word : List ℕ) (most line : ℕ) (s : List ℕ) (l : List Edge) (t : List ℕ) → layerOf word most line s ≡ Whole l t → length l ≤ most
+layer-few word most line s l t e = omega (arith, ap length (whole-begun word most line s l t e), begun-few word most s)
 
 -- .. as the code counts them
-pub section-few : (b word : List ℕ) (most line p : ℕ) (r : layer.Layer) (x : Section) → shownLayer b r ≡ layerOf word most line (drop p b) → countedLayer b r → r ≡ layer.the-variants.Whole x → x .count ≤ most
-section-few b word most line p r x h k e =
-    let shown : Whole (edgesOf (x .count) (drop (x .first) b) .list) (drop (x .after) b) ≡ layerOf word most line (drop p b) = rw e at h in
-    let counted : x .count ≡ length (edgesOf (x .count) (drop (x .first) b) .list) = rw e at k in
-    omega (arith, layer-few word most line (drop p b) (edgesOf (x .count) (drop (x .first) b) .list) (drop (x .after) b) (sym shown))
+pub counted-whole : (l : List Edge) (r : layer.Layer) (x : Section) → countedLayer l r → r ≡ layer.the-variants.Whole x → x .count ≡ length l
+counted-whole l r x h e = rw e at h
+
+pub section-few : (b word : List ℕ) (most p : ℕ) (r : layer.Layer) (x : Section) → countedLayer (begun (countOf word most (drop p b))) r → r ≡ layer.the-variants.Whole x → x .count ≤ most
+section-few b word most p r x h e = omega (arith, counted-whole (begun (countOf word most (drop p b))) r x h e, begun-few word most (drop p b))

@@ -1,12 +1,17 @@
-// A layer's lines: its count, and its edges.
+// A layer's lines: its count, and its edges, which are stored as they are read.
 ghost use mathlib.Core.Path.{_≡_};
+ghost use mathlib.Core.List.{map};
 ghost use Prim.Native.Nat.{_+_};
 ghost use lib.ListN.{drop, length};
+ghost use lib.Seq.{sets};
 ghost use Rattle.sheet.specs.Reading.{countOf, edgesOf, wholeBy, layerOf};
-ghost use Rattle.sheet.specs.Shown.{shownCount, shownLayer, countedLayer};
+ghost use Rattle.sheet.specs.Shown.{shownCount, begun, shownLayer, countedLayer};
+ghost use Rattle.sheet.specs.Stored.{endsOf, labelsOf};
 use crate::edges::ReadEdge;
 use crate::edges::read_edge;
 use crate::numerals::numeral;
+use crate::stores::put_ends;
+use crate::stores::put_labels;
 use refusals::Refusal;
 use text::digits::Read;
 use text::digits::read_decimal;
@@ -48,33 +53,44 @@ fn read_count(s: &[u8], at: usize, word: &[u8], most: u32) -> Count
 }
 
 // How many edges were read, and the place after them.
-struct Edges {
-    read: u32,
-    after: usize,
-}
-
-// Reads edges from `at` on, until `count` are read or a line is none.
-fn read_edges(s: &[u8], at: usize, count: u32) -> Edges
-    ensures { λ r. ⌜ r .read ≡ length (edgesOf count (drop at (now (s .entry))) .list) ⌝ }
-    ensures { λ r. ⌜ drop (r .after) (now (s .entry)) ≡ edgesOf count (drop at (now (s .entry))) .rest ⌝ }
-{
-    let mut read = 0;
-    let mut place = at;
-    while read < count {
-        let ReadEdge::Line(_, next) = read_edge(s, place) else {
-            return Edges { read, after: place };
-        };
-        place = next;
-        read += 1;
-    }
-    Edges { read, after: place }
-}
-
-// A layer's edges: how many, the place of the first and the place after the last.
 pub struct Section {
     pub count: u32,
-    pub first: usize,
     pub after: usize,
+}
+
+// Reads edges from `at` on until `count` are read or a line is none, and stores them, the first at `place`; `subject` is 1 for the subject's.
+fn read_edges(
+    s: &[u8],
+    at: usize,
+    count: u32,
+    place: u32,
+    subject: u32,
+    ends: &mut [[f64; 4]],
+    labels: &mut [[u32; 2]],
+) -> Section
+    ensures { λ r. ⌜ r .count ≡ length (edgesOf count (drop at (now (s .entry))) .list) ⌝ }
+    ensures { λ r. ⌜ drop (r .after) (now (s .entry)) ≡ edgesOf count (drop at (now (s .entry))) .rest ⌝ }
+    ensures { λ _. ⌜ now (ends .exit) ≡ sets (now (ends .entry)) place (map endsOf (edgesOf count (drop at (now (s .entry))) .list)) ⌝ }
+    ensures { λ _. ⌜ now (labels .exit) ≡ sets (now (labels .entry)) place (map (labelsOf subject) (edgesOf count (drop at (now (s .entry))) .list)) ⌝ }
+{
+    let mut read = 0;
+    let mut line = at;
+    while read < count {
+        let ReadEdge::Line(e, next) = read_edge(s, line) else {
+            return Section {
+                count: read,
+                after: line,
+            };
+        };
+        put_ends(ends, place as usize + read as usize, e);
+        put_labels(labels, place as usize + read as usize, e, subject);
+        line = next;
+        read += 1;
+    }
+    Section {
+        count: read,
+        after: line,
+    }
 }
 
 pub enum Layer {
@@ -82,32 +98,51 @@ pub enum Layer {
     Broken(Refusal),
 }
 
-// The edges from `first` on; a line that is none is told, where theirs begin after `line`.
-fn read_whole(s: &[u8], first: usize, count: u32, line: u32) -> Layer
-    ensures { λ r. ⌜ shownLayer (now (s .entry)) r ≡ wholeBy (line + 1) (edgesOf count (drop first (now (s .entry))) .list) (edgesOf count (drop first (now (s .entry))) .missing) (edgesOf count (drop first (now (s .entry))) .rest) ⌝ }
-    ensures { λ r. ⌜ countedLayer (now (s .entry)) r ⌝ }
+// The edges from `first` on, stored; a line that is none is told, where theirs begin after `line`.
+fn read_whole(
+    s: &[u8],
+    first: usize,
+    count: u32,
+    line: u32,
+    place: u32,
+    subject: u32,
+    ends: &mut [[f64; 4]],
+    labels: &mut [[u32; 2]],
+) -> Layer
+    ensures { λ r. ⌜ shownLayer (edgesOf count (drop first (now (s .entry))) .list) (now (s .entry)) r ≡ wholeBy (line + 1) (edgesOf count (drop first (now (s .entry))) .list) (edgesOf count (drop first (now (s .entry))) .missing) (edgesOf count (drop first (now (s .entry))) .rest) ⌝ }
+    ensures { λ r. ⌜ countedLayer (edgesOf count (drop first (now (s .entry))) .list) r ⌝ }
+    ensures { λ _. ⌜ now (ends .exit) ≡ sets (now (ends .entry)) place (map endsOf (edgesOf count (drop first (now (s .entry))) .list)) ⌝ }
+    ensures { λ _. ⌜ now (labels .exit) ≡ sets (now (labels .entry)) place (map (labelsOf subject) (edgesOf count (drop first (now (s .entry))) .list)) ⌝ }
 {
-    let e = read_edges(s, first, count);
-    if e.read < count {
+    let e = read_edges(s, first, count, place, subject, ends, labels);
+    if e.count < count {
         return Layer::Broken(Refusal {
             number: MALFORMED,
-            place: line as u64 + 1 + e.read as u64,
+            place: line as u64 + 1 + e.count as u64,
         });
     }
-    Layer::Whole(Section {
-        count,
-        first,
-        after: e.after,
-    })
+    Layer::Whole(e)
 }
 
-// The layer whose count stands after a word at `at`, in that line.
-pub fn read_layer(s: &[u8], at: usize, word: &[u8], most: u32, line: u32) -> Layer
-    ensures { λ r. ⌜ shownLayer (now (s .entry)) r ≡ layerOf (now (word .entry)) most line (drop at (now (s .entry))) ⌝ }
-    ensures { λ r. ⌜ countedLayer (now (s .entry)) r ⌝ }
+// The layer whose count stands after a word at `at`, in that line; the edges read are stored, also those of one that breaks off.
+pub fn read_layer(
+    s: &[u8],
+    at: usize,
+    word: &[u8],
+    most: u32,
+    line: u32,
+    place: u32,
+    subject: u32,
+    ends: &mut [[f64; 4]],
+    labels: &mut [[u32; 2]],
+) -> Layer
+    ensures { λ r. ⌜ shownLayer (begun (countOf (now (word .entry)) most (drop at (now (s .entry))))) (now (s .entry)) r ≡ layerOf (now (word .entry)) most line (drop at (now (s .entry))) ⌝ }
+    ensures { λ r. ⌜ countedLayer (begun (countOf (now (word .entry)) most (drop at (now (s .entry))))) r ⌝ }
+    ensures { λ _. ⌜ now (ends .exit) ≡ sets (now (ends .entry)) place (map endsOf (begun (countOf (now (word .entry)) most (drop at (now (s .entry)))))) ⌝ }
+    ensures { λ _. ⌜ now (labels .exit) ≡ sets (now (labels .entry)) place (map (labelsOf subject) (begun (countOf (now (word .entry)) most (drop at (now (s .entry)))))) ⌝ }
 {
     match read_count(s, at, word, most) {
-        Count::Edges(n, first) => read_whole(s, first, n, line),
+        Count::Edges(n, first) => { read_whole(s, first, n, line, place, subject, ends, labels) }
         Count::Many => Layer::Broken(Refusal {
             number: refusals::SIZE,
             place: line as u64,

@@ -1,16 +1,21 @@
 // The sheet (01, 'The sheet'): bytes read line by line as an operation and the edges of two layers.
 pub mod edges;
-pub mod layers;
+mod layers;
 pub mod numerals;
 pub mod operations;
-pub mod stores;
+mod stores;
 
 ghost use mathlib.Core.Path.{_≡_};
-ghost use Prim.Native.Nat.{_≤_};
+ghost use mathlib.Core.List.{List, _++_, map};
+ghost use Prim.Native.Nat.{_≤_, _-_};
 ghost use lib.ListN.{drop, length};
-ghost use Rattle.sheet.specs.Reading.{Whole, edgesOf, afterClip, afterSubject, readSheet};
-ghost use Rattle.sheet.specs.Stored.{left, leave};
+ghost use lib.Seq.{sets};
+ghost use Rattle.sheet.specs.Sheet.{Sheet, clipWord};
+ghost use Rattle.sheet.specs.Reading.{Accepted, Whole, countOf, afterClip, afterSubject, readSheet};
+ghost use Rattle.sheet.specs.Shown.{begun, told};
+ghost use Rattle.sheet.specs.Stored.{endsOf, labelsOf, left, leave};
 use class::Operation;
+use edges::Edge;
 use layers::Layer;
 use layers::MALFORMED;
 use layers::Section;
@@ -18,7 +23,10 @@ use layers::read_layer;
 use operations::Found;
 use operations::read_operation;
 use refusals::Refusal;
-use stores::store;
+use stores::copy_ends;
+use stores::copy_labels;
+use stores::no_ends;
+use stores::no_labels;
 
 // The most edges, in both layers together.
 pub const MAX_EDGES: u32 = 256;
@@ -30,17 +38,8 @@ pub enum Told {
 }
 
 // Both layers are read: nothing may come after them.
-fn after_clip(
-    bytes: &[u8],
-    operation: Operation,
-    subject: Section,
-    clip: Section,
-    ends: &mut [[f64; 4]],
-    labels: &mut [[u32; 2]],
-) -> Told
-    requires { ⌜ subject .count ≡ length (edgesOf (subject .count) (drop (subject .first) (now bytes)) .list) ⌝ }
-    requires { ⌜ clip .count ≡ length (edgesOf (clip .count) (drop (clip .first) (now bytes)) .list) ⌝ }
-    ensures { λ r. ⌜ left r (now (ends .exit)) (now (labels .exit)) ≡ leave (afterClip operation (edgesOf (subject .count) (drop (subject .first) (now (bytes .entry))) .list) (Whole (edgesOf (clip .count) (drop (clip .first) (now (bytes .entry))) .list) (drop (clip .after) (now (bytes .entry))))) (now (ends .entry)) (now (labels .entry)) ⌝ }
+fn after_clip(bytes: &[u8], operation: Operation, subject: Section, clip: Section) -> Told
+    ensures { λ r. ⌜ ((l m : List Edge) → subject .count ≡ length l → clip .count ≡ length m → r ≡ told (afterClip operation l (Whole m (drop (clip .after) (now (bytes .entry)))))) ⌝ }
 {
     if clip.after < bytes.len() {
         return Told::Refused(Refusal {
@@ -48,20 +47,10 @@ fn after_clip(
             place: 4 + (subject.count as u64 + clip.count as u64),
         });
     }
-    store(bytes, subject.first, subject.count, 0, 1, ends, labels);
-    store(
-        bytes,
-        clip.first,
-        clip.count,
-        subject.count,
-        0,
-        ends,
-        labels,
-    );
     Told::Read(operation, subject.count, clip.count)
 }
 
-// The subject is read: the clip comes next.
+// The subject is read: the clip comes next, and its edges go behind the subject's.
 fn after_subject(
     bytes: &[u8],
     operation: Operation,
@@ -69,20 +58,34 @@ fn after_subject(
     ends: &mut [[f64; 4]],
     labels: &mut [[u32; 2]],
 ) -> Told
-    requires { ⌜ subject .count ≡ length (edgesOf (subject .count) (drop (subject .first) (now bytes)) .list) ⌝ }
     requires { ⌜ subject .count ≤ 256 ⌝ }
-    ensures { λ r. ⌜ left r (now (ends .exit)) (now (labels .exit)) ≡ leave (afterSubject operation (Whole (edgesOf (subject .count) (drop (subject .first) (now (bytes .entry))) .list) (drop (subject .after) (now (bytes .entry))))) (now (ends .entry)) (now (labels .entry)) ⌝ }
+    ensures { λ r. ⌜ ((l : List Edge) → subject .count ≡ length l → r ≡ told (afterSubject operation (Whole l (drop (subject .after) (now (bytes .entry)))))) ⌝ }
+    ensures { λ _. ⌜ now (ends .exit) ≡ sets (now (ends .entry)) (subject .count) (map endsOf (begun (countOf clipWord (256 - subject .count) (drop (subject .after) (now (bytes .entry)))))) ⌝ }
+    ensures { λ _. ⌜ now (labels .exit) ≡ sets (now (labels .entry)) (subject .count) (map (labelsOf 0) (begun (countOf clipWord (256 - subject .count) (drop (subject .after) (now (bytes .entry)))))) ⌝ }
 {
-    let most = MAX_EDGES - subject.count;
-    match read_layer(bytes, subject.after, b"clip ", most, 3 + subject.count) {
-        Layer::Whole(clip) => after_clip(bytes, operation, subject, clip, ends, labels),
+    let n = subject.count;
+    let most = MAX_EDGES - n;
+    match read_layer(
+        bytes,
+        subject.after,
+        b"clip ",
+        most,
+        3 + n,
+        n,
+        0,
+        ends,
+        labels,
+    ) {
+        Layer::Whole(clip) => after_clip(bytes, operation, subject, clip),
         Layer::Broken(refusal) => Told::Refused(refusal),
     }
 }
 
-// The edges go into the lent arrays from place 0 on, the subject's first, as loading takes them. A refused sheet leaves the arrays as lent.
-pub fn read_sheet(bytes: &[u8], ends: &mut [[f64; 4]], labels: &mut [[u32; 2]]) -> Told
-    ensures { λ r. ⌜ left r (now (ends .exit)) (now (labels .exit)) ≡ leave (readSheet (now (bytes .entry))) (now (ends .entry)) (now (labels .entry)) ⌝ }
+// Reads line by line, and stores edges as they are read; what a refused sheet leaves is not told.
+fn read_lines(bytes: &[u8], ends: &mut [[f64; 4]], labels: &mut [[u32; 2]]) -> Told
+    ensures { λ r. ⌜ r ≡ told (readSheet (now (bytes .entry))) ⌝ }
+    ensures { λ _. ⌜ ((x : Sheet) → readSheet (now (bytes .entry)) ≡ Accepted x → now (ends .exit) ≡ sets (now (ends .entry)) 0 (map endsOf (x .subject) ++ map endsOf (x .clip))) ⌝ }
+    ensures { λ _. ⌜ ((x : Sheet) → readSheet (now (bytes .entry)) ≡ Accepted x → now (labels .exit) ≡ sets (now (labels .entry)) 0 (map (labelsOf 1) (x .subject) ++ map (labelsOf 0) (x .clip))) ⌝ }
 {
     let Found::Line(o, at) = read_operation(bytes) else {
         return Told::Refused(Refusal {
@@ -90,8 +93,26 @@ pub fn read_sheet(bytes: &[u8], ends: &mut [[f64; 4]], labels: &mut [[u32; 2]]) 
             place: 1,
         });
     };
-    match read_layer(bytes, at, b"subject ", MAX_EDGES, 2) {
+    match read_layer(bytes, at, b"subject ", MAX_EDGES, 2, 0, 1, ends, labels) {
         Layer::Whole(subject) => after_subject(bytes, o, subject, ends, labels),
         Layer::Broken(refusal) => Told::Refused(refusal),
+    }
+}
+
+// The edges go into the lent arrays from place 0 on, the subject's first, as loading takes them. A refused sheet leaves the arrays as lent: edges are
+// read into arrays of the function's own, and copied once the whole sheet is accepted.
+pub fn read_sheet(bytes: &[u8], ends: &mut [[f64; 4]], labels: &mut [[u32; 2]]) -> Told
+    ensures { λ r. ⌜ left r (now (ends .exit)) (now (labels .exit)) ≡ leave (readSheet (now (bytes .entry))) (now (ends .entry)) (now (labels .entry)) ⌝ }
+{
+    let mut own_ends = no_ends();
+    let mut own_labels = no_labels();
+    match read_lines(bytes, &mut own_ends, &mut own_labels) {
+        Told::Refused(refusal) => Told::Refused(refusal),
+        Told::Read(operation, subject, clip) => {
+            let n = subject as usize + clip as usize;
+            copy_ends(ends, &own_ends[..n]);
+            copy_labels(labels, &own_labels[..n]);
+            Told::Read(operation, subject, clip)
+        }
     }
 }

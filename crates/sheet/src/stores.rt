@@ -1,17 +1,16 @@
-// The edges of a section put into the lent arrays.
+// Edges in arrays: each is put into arrays of reading's own, and all are copied to the lent ones once the sheet is accepted.
 ghost use mathlib.Core.Path.{_≡_};
-ghost use mathlib.Core.List.{map};
-ghost use lib.ListN.{drop, set};
+ghost use lib.ListN.{length, set};
 ghost use lib.Seq.{sets};
-ghost use Rattle.sheet.specs.Reading.{edgesOf};
 ghost use Rattle.sheet.specs.Stored.{endsOf, labelsOf};
 use crate::edges::Corner;
 use crate::edges::Edge;
-use crate::edges::ReadEdge;
-use crate::edges::read_edge;
 use text::bits::number_of;
 
-fn put_ends(ends: &mut [[f64; 4]], at: usize, e: Edge)
+// `MAX_EDGES`, as an array is declared.
+const EDGES: usize = 256;
+
+pub fn put_ends(ends: &mut [[f64; 4]], at: usize, e: Edge)
     ensures { λ _. ⌜ now (ends .exit) ≡ set (now (ends .entry)) at (endsOf e) ⌝ }
 {
     let from = e.from;
@@ -27,7 +26,7 @@ fn put_ends(ends: &mut [[f64; 4]], at: usize, e: Edge)
     }
 }
 
-fn put_labels(labels: &mut [[u32; 2]], at: usize, e: Edge, subject: u32)
+pub fn put_labels(labels: &mut [[u32; 2]], at: usize, e: Edge, subject: u32)
     ensures { λ _. ⌜ now (labels .exit) ≡ set (now (labels .entry)) at (labelsOf subject e) ⌝ }
 {
     if at < labels.len() {
@@ -35,28 +34,40 @@ fn put_labels(labels: &mut [[u32; 2]], at: usize, e: Edge, subject: u32)
     }
 }
 
-// Stores the `count` edges that are read from `at` on, the first at `place`; `subject` is 1 for the subject's.
-pub fn store(
-    s: &[u8],
-    at: usize,
-    count: u32,
-    place: u32,
-    subject: u32,
-    ends: &mut [[f64; 4]],
-    labels: &mut [[u32; 2]],
-)
-    ensures { λ _. ⌜ now (ends .exit) ≡ sets (now (ends .entry)) place (map endsOf (edgesOf count (drop at (now (s .entry))) .list)) ⌝ }
-    ensures { λ _. ⌜ now (labels .exit) ≡ sets (now (labels .entry)) place (map (labelsOf subject) (edgesOf count (drop at (now (s .entry))) .list)) ⌝ }
+// The arrays that a sheet is read into.
+pub fn no_ends() -> [[f64; 4]; EDGES]
+    ensures { λ r. ⌜ length r ≡ 256 ⌝ }
+{
+    [[0.0; 4]; EDGES]
+}
+
+pub fn no_labels() -> [[u32; 2]; EDGES]
+    ensures { λ r. ⌜ length r ≡ 256 ⌝ }
+{
+    [[0u32; 2]; EDGES]
+}
+
+// Copies what was read to the first places, as far as there are any.
+pub fn copy_ends(ends: &mut [[f64; 4]], read: &[[f64; 4]])
+    ensures { λ _. ⌜ now (ends .exit) ≡ sets (now (ends .entry)) 0 (now (read .entry)) ⌝ }
 {
     let mut i = 0;
-    let mut line = at;
-    while i < count {
-        let ReadEdge::Line(e, next) = read_edge(s, line) else {
-            return;
-        };
-        put_ends(ends, place as usize + i as usize, e);
-        put_labels(labels, place as usize + i as usize, e, subject);
-        line = next;
+    while i < read.len() {
+        if i < ends.len() {
+            ends[i] = read[i];
+        }
+        i += 1;
+    }
+}
+
+pub fn copy_labels(labels: &mut [[u32; 2]], read: &[[u32; 2]])
+    ensures { λ _. ⌜ now (labels .exit) ≡ sets (now (labels .entry)) 0 (now (read .entry)) ⌝ }
+{
+    let mut i = 0;
+    while i < read.len() {
+        if i < labels.len() {
+            labels[i] = read[i];
+        }
         i += 1;
     }
 }

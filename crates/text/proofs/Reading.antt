@@ -1,6 +1,6 @@
 -- Digits are read from the first to the last; after i of them the number read so far is below base ^ i.
-use mathlib.Core.Path.{_≡_, _∙_}
-use mathlib.Core.Bool.{cond}
+use mathlib.Core.Path.{_≡_, refl, _∙_}
+use mathlib.Core.Bool.{Bool, true, false, cond, _&&_}
 use mathlib.Core.List.{List}
 use Prim.Native.Nat.{ℕ, suc, _+_, _-_, _*_, _%_, _^_, _≤_, _<_}
 use native.Mathlib.Nat.{add-zero, sub-zero, pow-zero, add-mul, mod-eq-of-lt, mul-comm, pow-succ', mul-le-mul-right, pow-le-pow-right}
@@ -41,13 +41,13 @@ module _ (b : ℕ) where
 unfoldable left : List ℕ → ℕ → ℕ → ℕ → ℕ → ℕ → Read
 left s at base count i v = value base v (bytes s (at + i) (count - i))
 
--- what is left to read where `top` is the largest of the i digits read
-pub leftBy : List ℕ → ℕ → ℕ → ℕ → ℕ → ℕ → ℕ → Read
-leftBy s at base count i top v = cond (ltb top base) (left s at base count i v) Nothing
+-- what is left to read where `all` tells whether the i bytes read are digits
+pub leftBy : List ℕ → ℕ → ℕ → ℕ → ℕ → Bool → ℕ → Read
+leftBy s at base count i all v = cond all (left s at base count i v) Nothing
 
-pub read-begun : (s : List ℕ) (at base count : ℕ) → 0 < base → leftBy s at base count 0 0 0 ≡ value base 0 (bytes s at count)
+pub read-begun : (s : List ℕ) (at base count : ℕ) → leftBy s at base count 0 true 0 ≡ value base 0 (bytes s at count)
 unfolding leftBy left
-read-begun s at base count h = rw (lt-ltb 0 base h, add-zero, sub-zero)
+read-begun s at base count = rw (add-zero, sub-zero)
 
 -- one digit d read
 module _ (s : List ℕ) (at base count i v d : ℕ) (h : i < count) (e : d ≡ digitOf (getD s (at + i) 0)) where
@@ -57,29 +57,27 @@ module _ (s : List ℕ) (at base count i v d : ℕ) (h : i < count) (e : d ≡ d
       let q : count - i ≡ suc (count - (i + 1)) = omega arith in
       let p : at + (i + 1) ≡ at + i + 1 = omega arith in rw (q, p, e)
 
-  pub read-on : (top : ℕ) → leftBy s at base count i top v ≡ leftBy s at base count (i + 1) (cond (ltb top d) d top) (v * base + d % base)
+  pub read-on : (all : Bool) → leftBy s at base count i all v ≡ leftBy s at base count (i + 1) (all && ltb d base) (v * base + d % base)
   unfolding leftBy
-  read-on top = go (decLt top base) (decLt d base) (decLt top d)
+  read-on false = refl
+  read-on true = go (decLt d base)
     where
-      go : Dec (top < base) → Dec (d < base) → Dec (top < d) → cond (ltb top base) (left s at base count i v) Nothing ≡ cond (ltb (cond (ltb top d) d top) base) (left s at base count (i + 1) (v * base + d % base)) Nothing
-      go (yes t) (yes l) (yes m) = rw (lt-ltb top d m, lt-ltb top base t, lt-ltb d base l, one-read, lt-ltb d base l, mod-eq-of-lt l)
-      go (yes t) (yes l) (no m) = rw (le-ltb top d (omega arith), lt-ltb top base t, one-read, lt-ltb d base l, mod-eq-of-lt l)
-      go (yes t) (no l) m = rw (lt-ltb top d (omega arith), lt-ltb top base t, one-read, le-ltb d base (omega arith))
-      go (no t) l (yes m) = rw (lt-ltb top d m, le-ltb top base (omega arith), le-ltb d base (omega arith))
-      go (no t) l (no m) = rw (le-ltb top d (omega arith), le-ltb top base (omega arith))
+      go : Dec (d < base) → left s at base count i v ≡ cond (ltb d base) (left s at base count (i + 1) (v * base + d % base)) Nothing
+      go (yes l) = rw (one-read, lt-ltb d base l, mod-eq-of-lt l)
+      go (no l) = rw (one-read, le-ltb d base (omega arith))
 
-module _ (s : List ℕ) (at base count i top v : ℕ) (h : count ≤ i) where
+module _ (s : List ℕ) (at base count i : ℕ) (all : Bool) (v : ℕ) (h : count ≤ i) where
   all-read : left s at base count i v ≡ Value v
   unfolding left value bytes
   all-read = let q : count - i ≡ 0 = omega arith in rw q
 
-  pub read-end : top < base → leftBy s at base count i top v ≡ Value v
+  pub read-end : all ≡ true → leftBy s at base count i all v ≡ Value v
   unfolding leftBy
-  read-end l = rw (lt-ltb top base l, all-read)
+  read-end e = rw (e, all-read)
 
-  pub read-none : base ≤ top → leftBy s at base count i top v ≡ Nothing
+  pub read-none : all ≡ false → leftBy s at base count i all v ≡ Nothing
   unfolding leftBy
-  read-none l = rw (le-ltb top base l)
+  read-none e = rw e
 
 -- a digit more keeps the number below one power more, which is a u64 where the whole is
 pub grow : (base v d i : ℕ) → v < base ^ i → d < base → v * base + d < base ^ (i + 1)

@@ -92,16 +92,6 @@ fn digit_table() -> [u8; 256]
     table
 }
 
-// The larger of two digits.
-fn larger(a: u8, b: u8) -> u8
-    ensures { λ r. ⌜ r ≡ cond (ltb a b) b a ⌝ }
-{
-    if a < b {
-        return b;
-    }
-    a
-}
-
 // A byte that is there.
 fn byte(s: &[u8], i: usize) -> u8
     requires { ⌜ i < length (now s) ⌝ }
@@ -130,15 +120,15 @@ fn read_digits(s: &[u8], at: usize, base: u64, count: usize) -> Read
     }
     let table = digit_table();
     let mut v: u64 = 0;
-    let mut top: u8 = 0;
+    let mut all = true;
     let mut i = 0;
     while i < count {
-        let d = table[byte(s, at + i) as usize];
-        top = larger(top, d);
-        v = v * base + d as u64 % base;
+        let d = table[byte(s, at + i) as usize] as u64;
+        all = all & (d < base);
+        v = v * base + d % base;
         i += 1;
     }
-    if (top as u64) < base {
+    if all {
         return Read::Value(v);
     }
     Read::Nothing

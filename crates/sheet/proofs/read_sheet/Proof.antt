@@ -1,49 +1,55 @@
--- The operation's line, and then the subject's layer decide.
+-- A refused sheet changes nothing; the edges of an accepted one stand in the first places of the arrays that were read into.
 use borrow.Author.Needs.{needs}
-use Rattle.text.specs.Quoted.{quoted}
-use Rattle.sheet.specs.Sheet.{subjectWord}
-use Rattle.sheet.proofs.Sections.{section-few}
-use Rattle.sheet.proofs.Puts.{counted-whole, no-line, sheet-on, sheet-broken}
+use mathlib.Core.Path.{sym}
+use lib.Seq.{length-take-le}
+use Rattle.sheet.proofs.Copies.{left-refused, read-within, left-read}
 use Rattle.sheet.proofs.read_sheet.Statement.{statement}
 use Rattle.sheet.proofs.read_sheet.Tie as tie
 
-after-subject-requires : tie.Need-after-subject-requires
-after-subject-requires c κs =
-    let b = c .before .before .before .before .before .before .before .before .before .before .before .before .args .bytes .now in
-    let r = c .before .before .before .before .before .read-layer in
-    (counted-whole b _ _ (r .ensures .1) (c .before .before .before .subject .given .1), section-few b _ 256 2 (c .before .before .before .before .before .before .before .before .o .given .0 .1 .0) _ _ (r .ensures .0) (r .ensures .1) (c .before .before .before .subject .given .1))
+ends-part : tie.Need-array-share-prefix-own-ends
+ends-part c = read-within (c .before .before .before .before .before .before .before .before .before .before .before .before .args .bytes .now) _ (c .before .before .before .before .before .before .read-lines .ensures .0) _ _ _ (c .before .before .operation .given .1) _ _ (c .before .before .before .before .before .before .before .before .before .before .no-ends .ensures) (c .before .before .before .before .before .before .read-lines .kept .1 .0)
+
+ends-count : tie.Need-slice-aggregate-copy-ends
+ends-count c = sym (length-take-le _ _ (ends-part (c .before)))
+
+labels-part : tie.Need-array-share-prefix-own-labels
+labels-part c = read-within (c .before .before .before .before .before .before .before .before .before .before .before .before .before .before .before .before .args .bytes .now) _ (c .before .before .before .before .before .before .before .before .before .before .read-lines .ensures .0) _ _ _ (c .before .before .before .before .before .before .operation .given .1) _ _ (c .before .before .before .before .before .before .before .before .before .before .before .before .before .no-labels .ensures) (c .before .before .before .before .before .before .before .before .before .before .read-lines .kept .1 .1 .0)
+
+labels-count : tie.Need-slice-aggregate-copy-labels
+labels-count c = sym (length-take-le _ _ (labels-part (c .before)))
 
 returns : tie.Need-returns
 returns c =
-    let a = c .before .before .before .before .args in
-    no-line (a .bytes .now) _ (c .before .before .read-operation .ensures) (c .enum-told .given .1) (a .ends .now) (a .labels .now)
+    let a = c .before .before .before .before .before .before .before .before .before .before .before .args in
+    left-refused (a .bytes .now) _ (c .before .before .before .before .before .read-lines .ensures .0) _ (c .before .refusal .given .1) (a .ends .now) (a .labels .now)
 
 returns-2 : tie.Need-returns-2
-unfolding subjectWord quoted
 returns-2 c =
-    let a = c .before .before .before .before .before .before .before .before .before .before .before .before .before .before .before .args in
-    sheet-on (a .bytes .now) _ _ (a .ends .now) (a .labels .now) _ (c .before .before .before .before .before .before .before .before .before .before .before .before .before .read-operation .ensures) _ (c .before .before .before .before .before .before .before .before .before .before .before .o .given .1) (c .before .before .before .before .before .before .before .before .read-layer .ensures .0) _ (c .before .before .before .before .before .before .subject .given .1) _ (c .before .before .after-subject .ensures)
-
-returns-3 : tie.Need-returns-3
-unfolding subjectWord quoted
-returns-3 c =
-    let a = c .before .before .before .before .before .before .before .before .before .before .args in
-    sheet-broken (a .bytes .now) _ _ (a .ends .now) (a .labels .now) _ (c .before .before .before .before .before .before .before .before .read-operation .ensures) _ (c .before .before .before .before .before .before .o .given .1) (c .before .before .before .read-layer .ensures .0) _ (c .before .refusal .given .1)
+    let a = c .before .before .before .before .before .before .before .before .before .before .before .before .before .before .before .before .before .before .before .args in
+    let r = c .before .before .before .before .before .before .before .before .before .before .before .before .before .read-lines .ensures in
+    left-read (a .bytes .now) _ (r .0) _ _ _ (c .before .before .before .before .before .before .before .before .before .operation .given .1) _ _ _ _ _ _ _ _ (c .before .before .before .before .before .before .before .before .before .before .before .before .before .before .before .before .before .no-ends .ensures) (c .before .before .before .before .before .before .before .before .before .before .before .before .before .before .before .before .no-labels .ensures) (r .1 .0) (r .1 .1) (c .before .before .before .before .before .copy-ends .ensures) (c .before .copy-labels .ensures)
 
 pub read-sheet-spec : {M : Type 1} → statement M
 read-sheet-spec =
     tie.close
     (tie.spec
     (λ c κs. tt)
+    (λ c κs. tt)
     (λ c. search needs)
-    (λ c. search needs)
-    returns
     (λ c. search needs)
     (λ c κs. tt)
     (λ c. search needs)
-    after-subject-requires
     (λ c. search needs)
     (λ c. search needs)
     (λ c. search needs)
-    returns-2
-    returns-3)
+    (λ c. search needs)
+    ends-part
+    ends-count
+    (λ c κs. tt)
+    labels-part
+    labels-count
+    (λ c κs. tt)
+    returns
+    (λ c. search needs)
+    (λ c. search needs)
+    returns-2)

@@ -1,8 +1,0 @@
--- The test is the definition's.
-use borrow.Author.Needs.{needs}
-use borrow.Author.Tests.{lt-ltb, le-ltb}
-use Rattle.text.proofs.digits.larger.Statement.{statement}
-use Rattle.text.proofs.digits.larger.Tie as tie
-
-pub larger-spec : {M : Type 1} → statement M
-larger-spec = tie.close (tie.spec (λ c. rw (lt-ltb _ _ (c .if1 .taken))) (λ c. rw (le-ltb _ _ (c .if1 .left))))
