@@ -83,7 +83,8 @@ enum { BEZORIKA_INTERSECTION = 0, BEZORIKA_DIFFERENCE = 1, BEZORIKA_UNION = 2, B
    tied with the one taken.
 
    Refuses by 1, 2 and 4 with all arrays as lent; by 6 and 7 with all done before
-   it, as counts tells. */
+   it, as counts tells. What is not refused by 6 comes out the same in every
+   larger pool, so a small one may be tried first. */
 uint64_t bezorika_subdivide(double (*points)[2], size_t points_length,
                             uint32_t (*marks)[12], size_t marks_length,
                             uint32_t loaded, uint32_t operation,

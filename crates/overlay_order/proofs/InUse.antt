@@ -17,7 +17,7 @@ use Rattle.events.specs.Pool.{Pool, size, rowAt}
 use Rattle.contours.specs.Connect.{withContour}
 use Rattle.contours.specs.Renaming.{Renumbered, RenumberedPool}
 use Rattle.sweep_order.specs.SameBut.{Renaming}
-use Rattle.overlay_work.specs.Overlay.{firstPlaces}
+use Rattle.sweep_room.specs.Room.{firstPlaces}
 
 -- u places of a pool that has as many
 record Holds (u : ℕ) (q : Pool) : Type 0 where

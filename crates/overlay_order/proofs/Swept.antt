@@ -28,8 +28,9 @@ use Rattle.sweep.proofs.Answers.{used-counted}
 use Rattle.sweep_order.specs.SameBut.{Renaming, renameRefusal}
 use Rattle.sweep_order.specs.OnPool.{Reordered, SameAfter, OrderFreeCalls, renameOutcome, renameSwept}
 use Rattle.sweep_order.proofs.AtBinary64.{order-of-loading}
+use Rattle.sweep_room.specs.Room.{firstPlaces}
 use Rattle.connection.specs.Connection.{lent}
-use Rattle.overlay_work.specs.Overlay.{Work, Text, Stopped, noPoints, noMarks, noneTaken, noContours, noHoles, firstPlaces, overlayTaken, sweptTo, afterSweep, loadedTo, afterLoading, overlayEdges}
+use Rattle.overlay_work.specs.Overlay.{Work, Text, Stopped, poolPlaces, noPoints, noneTaken, emptyPool, overlayTaken, sweptTo, afterSweep, loadedTo, afterLoading, overlayEdgesIn, overlayEdges}
 use Rattle.overlay_work.proofs.Handing.{taken-within, in-use}
 use Rattle.overlay_order.specs.Lines.{SameWork, same-text, same-number}
 use Rattle.overlay_order.proofs.InUse.{renumbered}
@@ -119,19 +120,22 @@ module _ (op : Operation) (n : ℕ) (ρ : Renaming n) (p p′ : Pool) (lent : Li
 -- ---- two loadings
 
 abbrev start : Pool
-start = pool noPoints noMarks
+start = emptyPool poolPlaces
 
-all-long : (length (start .points) ≡ 1024) × (length noneTaken ≡ 1024)
+abbrev none : List ℕ
+none = noneTaken poolPlaces
+
+all-long : (length (start .points) ≡ 1024) × (length none ≡ 1024)
 unfolding noPoints noneTaken
 all-long = (refl, refl)
 
 module _ (op : Operation) (ends : List (List Float)) (labels : List (List ℕ)) (ends′ : List (List Float)) (labels′ : List (List ℕ)) (o : Reordered ends labels ends′ labels′)
-    (n : ℕ) (d : load ends labels start .answer ≡ Loading.Done n) (u : subdividePool op (load ends labels start .pool) n noneTaken .answer .tied ≡ false) where
-  free : OrderFreeCalls op n ends labels start noneTaken ends′ labels′ start noneTaken
+    (n : ℕ) (d : load ends labels start .answer ≡ Loading.Done n) (u : subdividePool op (load ends labels start .pool) n none .answer .tied ≡ false) where
+  free : OrderFreeCalls op n ends labels start none ends′ labels′ start none
   free =
-      let k : length noneTaken ≡ length (start .points) = all-long .1 ∙ sym (all-long .0) in
-      order-of-loading op ends labels start noneTaken ends′ labels′ start noneTaken o (record { points = refl; marks = refl; takes = k; takes′ = k }) n d u
+      let k : length none ≡ length (start .points) = all-long .1 ∙ sym (all-long .0) in
+      order-of-loading op ends labels start none ends′ labels′ start none o (record { points = refl; marks = refl; takes = k; takes′ = k }) n d u
 
   pub loaded-alike : SameWork (overlayEdges op ends labels) (overlayEdges op ends′ labels′)
-  unfolding overlayEdges afterLoading loadedTo
-  loaded-alike = rw (d, free .loads) (swept-alike op n (free .runs .renaming) (load ends labels start .pool) (load ends′ labels′ start .pool) noneTaken (free .calls))
+  unfolding overlayEdges overlayEdgesIn afterLoading loadedTo
+  loaded-alike = rw (d, free .loads) (swept-alike op n (free .runs .renaming) (load ends labels start .pool) (load ends′ labels′ start .pool) none (free .calls))

@@ -5,13 +5,12 @@ use mathlib.Core.List.{List, _++_, map, List·Permᴰ}
 use Prim.Native.Nat.{ℕ}
 use lib.Ieee.{Float}
 use Rattle.refusals.specs.declared.Refusal.{Refusal}
-use Rattle.events.specs.Pool.{pool}
 use Rattle.loading.specs.declared.Loaded.the-variants.{Done}
 use Rattle.loading.specs.OnPool.{load}
 use Rattle.sweep.specs.OnPool.{subdividePool}
 use Rattle.sheet.specs.Sheet.{Sheet}
 use Rattle.sheet.specs.Stored.{endsOf, labelsOf}
-use Rattle.overlay_work.specs.Overlay.{Work, Text, Stopped, noPoints, noMarks, noneTaken}
+use Rattle.overlay_work.specs.Overlay.{Work, Text, Stopped, poolPlaces, noneTaken, emptyPool}
 
 pub record Permuted (s s′ : Sheet) : Type 0 where
   pub operation : s′ .operation ≡ s .operation
@@ -33,5 +32,5 @@ pub data SameWork : Work → Work → Type 0 where
 -- all edges load, n records in all, and at no taking another waiting event tied with the one taken
 pub record Untied (s : Sheet) : Type 0 where
   pub n : ℕ
-  pub loads : load (endsIn s) (labelsIn s) (pool noPoints noMarks) .answer ≡ Done n
-  pub untied : subdividePool (s .operation) (load (endsIn s) (labelsIn s) (pool noPoints noMarks) .pool) n noneTaken .answer .tied ≡ false
+  pub loads : load (endsIn s) (labelsIn s) (emptyPool poolPlaces) .answer ≡ Done n
+  pub untied : subdividePool (s .operation) (load (endsIn s) (labelsIn s) (emptyPool poolPlaces) .pool) n (noneTaken poolPlaces) .answer .tied ≡ false

@@ -31,6 +31,7 @@ use Rattle.sweep.specs.Run.{subdivide}
 use Rattle.sweep.proofs.Ends.{used-within}
 use Rattle.sweep.proofs.Sweeps.{accepted, places-are}
 use Rattle.sweep.proofs.Answers.{events-counted}
+use Rattle.sweep_room.specs.Room.{firstPlaces}
 use Rattle.connection.specs.declared.Connected.{Connected}
 use Rattle.connection.specs.declared.Outcome as Connection
 use Rattle.connection.specs.declared.Outcome.the-variants as Connecting
@@ -41,7 +42,7 @@ use Rattle.printing.specs.Arrays.{printedArrays}
 use Rattle.printing.specs.Put.{Put, mostPlaces}
 use Rattle.overlay_work.specs.declared.Overlaid.{Overlaid}
 use Rattle.overlay_work.specs.declared.Overlaid.the-variants.{Printed, Refused}
-use Rattle.overlay_work.specs.Overlay.{Work, Text, Stopped, After, left, put, wanted, noPoints, noMarks, noneTaken, noContours, noHoles, firstPlaces, connectedTo, afterConnection, overlayTaken, sweptTo, afterSweep, loadedTo, afterLoading, overlayEdges, overlay, answered, told, answer}
+use Rattle.overlay_work.specs.Overlay.{Work, Text, Stopped, After, left, put, wanted, noPoints, noMarks, noneTaken, noContours, noHoles, emptyPool, emptyOutlines, connectedTo, afterConnection, overlayTaken, sweptTo, afterSweep, loadedTo, afterLoading, overlayEdgesIn, overlay, answered, told, answer}
 
 -- ---- the text
 
@@ -168,37 +169,37 @@ module _ (op : Operation) (p : Pool) (n : ℕ) (lent : List ℕ) where
 
 -- ---- loading
 
-module _ (out : List ℕ) (o : Operation) (a : Loaded) (p : Pool) (x : Loads.After) (e : Loads.after a p ≡ x) where
-  loaded-is : (b : Loaded) → a ≡ b → put (loadedTo o b p) out ≡ put (afterLoading o x) out
+module _ (out : List ℕ) (o : Operation) (taken : List ℕ) (a : Loaded) (p : Pool) (x : Loads.After) (e : Loads.after a p ≡ x) where
+  loaded-is : (b : Loaded) → a ≡ b → put (loadedTo o taken b p) out ≡ put (afterLoading o taken x) out
   unfolding afterLoading
-  loaded-is b f = ap (λ (b : Loaded). put (loadedTo o b p) out) (sym f) ∙ ap (λ (y : Loads.After). put (afterLoading o y) out) e
+  loaded-is b f = ap (λ (b : Loaded). put (loadedTo o taken b p) out) (sym f) ∙ ap (λ (y : Loads.After). put (afterLoading o taken y) out) e
 
-  pub unloaded : (r : Refusal) → a ≡ Loading.Refused r → left (Refused r) out ≡ put (afterLoading o x) out
+  pub unloaded : (r : Refusal) → a ≡ Loading.Refused r → left (Refused r) out ≡ put (afterLoading o taken x) out
   unfolding loadedTo put
   unloaded r f = loaded-is (Loading.Refused r) f
 
-  pub loaded-on : (y : After) (n : ℕ) (taken : List ℕ) → a ≡ Loading.Done n → taken ≡ noneTaken → y ≡ put (afterSweep (subdividePool o p n taken)) out → y ≡ put (afterLoading o x) out
+  pub loaded-on : (y : After) (n : ℕ) → a ≡ Loading.Done n → y ≡ put (afterSweep (subdividePool o p n taken)) out → y ≡ put (afterLoading o taken x) out
   unfolding loadedTo
-  loaded-on y n taken f t g = g ∙ ap (λ (l : List ℕ). put (afterSweep (subdividePool o p n l)) out) t ∙ loaded-is (Loading.Done n) f
+  loaded-on y n f g = g ∙ loaded-is (Loading.Done n) f
 
 -- ---- the arrays at the start
 
-pub in-places : (out : List ℕ) (p : Pool) (list : List ℕ) (cs : List (List Float)) (ks : List (List ℕ)) (hs : List ℕ) (y : After) → cs ≡ noPoints → ks ≡ noContours → hs ≡ noHoles
-    → y ≡ put (afterConnection (connectEdges p list (Connects.lent cs ks hs))) out → y ≡ put (overlayTaken p list) out
-unfolding overlayTaken
-in-places out p list cs ks hs y e f g h =
+pub in-places : (n k : ℕ) (out : List ℕ) (p : Pool) (list : List ℕ) (cs : List (List Float)) (ks : List (List ℕ)) (hs : List ℕ) (y : After) → cs ≡ noPoints n → ks ≡ noContours k → hs ≡ noHoles k
+    → y ≡ put (afterConnection (connectEdges p list (Connects.lent cs ks hs))) out → y ≡ put (afterConnection (connectEdges p list (emptyOutlines n k))) out
+in-places n k out p list cs ks hs y e f g h =
     h
     ∙ ap (λ (l : List (List Float)). put (afterConnection (connectEdges p list (Connects.lent l ks hs))) out) e
-    ∙ ap (λ (l : List (List ℕ)). put (afterConnection (connectEdges p list (Connects.lent noPoints l hs))) out) f
-    ∙ ap (λ (l : List ℕ). put (afterConnection (connectEdges p list (Connects.lent noPoints noContours l))) out) g
+    ∙ ap (λ (l : List (List ℕ)). put (afterConnection (connectEdges p list (Connects.lent (noPoints n) l hs))) out) f
+    ∙ ap (λ (l : List ℕ). put (afterConnection (connectEdges p list (Connects.lent (noPoints n) (noContours k) l))) out) g
 
-pub in-pool : (out : List ℕ) (o : Operation) (ends : List (List Float)) (labels : List (List ℕ)) (ps : List (List Float)) (ms : List (List ℕ)) (y : After) → ps ≡ noPoints → ms ≡ noMarks
-    → y ≡ put (afterLoading o (Loads.load ends labels (pool ps ms))) out → y ≡ put (overlayEdges o ends labels) out
-unfolding overlayEdges
-in-pool out o ends labels ps ms y e f h =
+pub in-pool : (n : ℕ) (out : List ℕ) (o : Operation) (ends : List (List Float)) (labels : List (List ℕ)) (ps : List (List Float)) (ms : List (List ℕ)) (ts : List ℕ) (y : After) → ps ≡ noPoints n → ms ≡ noMarks n → ts ≡ noneTaken n
+    → y ≡ put (afterLoading o ts (Loads.load ends labels (pool ps ms))) out → y ≡ put (overlayEdgesIn n o ends labels) out
+unfolding overlayEdgesIn
+in-pool n out o ends labels ps ms ts y e f g h =
     h
-    ∙ ap (λ (l : List (List Float)). put (afterLoading o (Loads.load ends labels (pool l ms))) out) e
-    ∙ ap (λ (l : List (List ℕ)). put (afterLoading o (Loads.load ends labels (pool noPoints l))) out) f
+    ∙ ap (λ (l : List (List Float)). put (afterLoading o ts (Loads.load ends labels (pool l ms))) out) e
+    ∙ ap (λ (l : List (List ℕ)). put (afterLoading o ts (Loads.load ends labels (pool (noPoints n) l))) out) f
+    ∙ ap (λ (l : List ℕ). put (afterLoading o l (Loads.load ends labels (emptyPool n))) out) g
 
 -- ---- what the program prints
 

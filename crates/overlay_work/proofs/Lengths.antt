@@ -29,19 +29,21 @@ use Rattle.sweep.specs.declared.Outcome.the-variants as Sweeping
 use Rattle.sweep.specs.Run.{subdivide}
 use Rattle.sweep.specs.OnPool as Sweeps
 use Rattle.sweep.specs.OnPool.{accept, afterRun, asLent, afterChecks, subdividePool}
+use Rattle.sweep_room.specs.Room.{firstPlaces}
 use Rattle.contours.specs.Connect.{Finished, refused, stopped, connected, given}
 use Rattle.contours.specs.Connect as C
 use Rattle.contours.specs.OnPool.{connectPool}
 use Rattle.contours.proofs.Room.{Roomy}
 use Rattle.contours.proofs.AtBinary64.{enough, numbers, always-room}
-use Rattle.connection.specs.Connection.{Lent, lent, roomOf, told, after, connectEdges}
+use Rattle.connection.specs.Connection.{Lent, roomOf, told, after, connectEdges}
 use Rattle.printing.specs.Put.{mostPlaces}
 use Rattle.printing.proofs.Lengths.{printed-short, refusal-short}
 use Rattle.overlay_work.specs.declared.Overlaid.the-variants.{Printed, Refused}
-use Rattle.overlay_work.specs.Overlay.{Work, Text, Stopped, After, left, put, wanted, poolPlaces, noPoints, noneTaken, noContours, noHoles, firstPlaces, connectedTo, afterConnection, overlayTaken, sweptTo, afterSweep, loadedTo, afterLoading, overlayEdges, overlaySheet, afterReading, work, overlay, answer}
+use Rattle.overlay_work.specs.Overlay.{Work, Text, Stopped, After, left, put, wanted, poolPlaces, contourPlaces, noneTaken, emptyOutlines, connectedTo, afterConnection, overlayTaken, sweptTo, afterSweep, loadedTo, afterLoading, overlayEdgesIn, overlayEdges, overlaySheet, afterReading, work, overlay, answer}
 use Rattle.overlay_work.specs.Overlay as Spec
+use Rattle.overlay_work.proofs.Empty.{points-room, contours-room, holes-room, taken-room}
+use Rattle.overlay_work.proofs.Outlines.{text-of, empty-roomy}
 use Rattle.overlay_work.proofs.Refusals.{ReadBy, read-by, load-by, sweep-by, stopped-by}
-use Rattle.overlay_work.proofs.Texts.{text-is}
 
 -- in bytes
 abbrev pub longestText : ℕ
@@ -52,43 +54,25 @@ abbrev Fair : Work → Type 0
 Fair (Text t) = length t ≤ longestText
 Fair (Stopped r) = r .number ≢ 5
 
--- ---- the arrays at the start
-
-points-room : length noPoints ≡ 1024
-unfolding noPoints
-points-room = refl
-
-contours-room : length noContours ≡ 512
-unfolding noContours
-contours-room = refl
-
-holes-room : length noHoles ≡ 512
-unfolding noHoles
-holes-room = refl
-
-taken-room : length noneTaken ≡ 1024
-unfolding noneTaken
-taken-room = refl
+-- ---- connection
 
 abbrev arrays : Lent
-arrays = lent noPoints noContours noHoles
-
--- ---- connection
+arrays = emptyOutlines poolPlaces contourPlaces
 
 module _ (p : Pool) (list : List ℕ) (few : length list ≤ poolPlaces) where
   roomy : Roomy list (roomOf arrays)
-  roomy = record { points = omega (arith, few, points-room); contours = omega (arith, few, contours-room); holes = omega (arith, few, holes-room) }
+  roomy = empty-roomy poolPlaces contourPlaces list few (omega (arith, few))
 
   fair-text : (f : Finished Coordinate Pool) → connectPool p list (roomOf arrays) ≡ connected f → Fair (afterConnection (after (connected f) p arrays))
-  unfolding afterConnection connectedTo after told given
+  unfolding given
   fair-text f e =
       let s : given (connectPool p list (roomOf arrays)) ≡ some f = ap given e in
       let h = enough p list (roomOf arrays) f s in
       let a = h .0 in
       let b = h .1 in
       let c = h .2 in
-      rw (text-is (f .outlines) arrays a b c)
-      (omega (arith, a, b, c, points-room, contours-room, holes-room, printed-short (f .outlines) (numbers p list (roomOf arrays) f s) (omega (arith, a, contours-room)) (omega (arith, c, holes-room)) (omega (arith, b, points-room))))
+      rw (text-of p list arrays f e)
+      (omega (arith, a, b, c, points-room poolPlaces, contours-room contourPlaces, holes-room contourPlaces, printed-short (f .outlines) (numbers p list (roomOf arrays) f s) (omega (arith, a, contours-room contourPlaces)) (omega (arith, c, holes-room contourPlaces)) (omega (arith, b, points-room poolPlaces))))
 
   fair-taken : Fair (overlayTaken p list)
   unfolding overlayTaken connectEdges afterConnection connectedTo after told
@@ -109,27 +93,27 @@ taken-places o p n l = go (accept p n l)
     go Passed = length-sets l 0 (subdivide binary64 stored plain o p n .taken)
     go (Struck r) = refl
 
-fair-swept : (o : Operation) (p : Pool) (n : ℕ) → Fair (afterSweep (subdividePool o p n noneTaken))
+fair-swept : (o : Operation) (p : Pool) (n : ℕ) → Fair (afterSweep (subdividePool o p n (noneTaken poolPlaces)))
 unfolding afterSweep sweptTo
 fair-swept o p n = go (x .answer .outcome) refl
   where
     x : Sweeps.After
-    x = subdividePool o p n noneTaken
+    x = subdividePool o p n (noneTaken poolPlaces)
 
     go : (y : Sweep.Outcome) → x .answer .outcome ≡ y → Fair (sweptTo y (firstPlaces (x .answer .used) (x .pool)) (take (x .answer .taken) (x .taken)))
-    go Sweeping.Done e = fair-taken _ _ (omega (arith, length-take (x .answer .taken) (x .taken), taken-places o p n noneTaken, taken-room))
-    go (Sweeping.Refused r) e = sweep-by o p n noneTaken r e
+    go Sweeping.Done e = fair-taken _ _ (omega (arith, length-take (x .answer .taken) (x .taken), taken-places o p n (noneTaken poolPlaces), taken-room poolPlaces))
+    go (Sweeping.Refused r) e = sweep-by o p n (noneTaken poolPlaces) r e
 
-fair-loaded : (o : Operation) (ends : List (List Float)) (labels : List (List ℕ)) (p : Pool) → Fair (afterLoading o (Loads.load ends labels p))
+fair-loaded : (o : Operation) (ends : List (List Float)) (labels : List (List ℕ)) (p : Pool) → Fair (afterLoading o (noneTaken poolPlaces) (Loads.load ends labels p))
 unfolding afterLoading loadedTo
 fair-loaded o ends labels p = go (Loads.load ends labels p .answer) refl
   where
-    go : (y : Loaded) → Loads.load ends labels p .answer ≡ y → Fair (loadedTo o y (Loads.load ends labels p .pool))
+    go : (y : Loaded) → Loads.load ends labels p .answer ≡ y → Fair (loadedTo o (noneTaken poolPlaces) y (Loads.load ends labels p .pool))
     go (Loading.Done n) e = fair-swept o _ n
     go (Loading.Refused r) e = load-by ends labels p r e
 
 fair : (bytes : List ℕ) → Fair (work bytes)
-unfolding work afterReading overlaySheet overlayEdges
+unfolding work afterReading overlaySheet overlayEdges overlayEdgesIn
 fair bytes = go (readSheet bytes) (read-by bytes)
   where
     go : (r : Reading) → ReadBy r → Fair (afterReading r)

@@ -1,6 +1,10 @@
--- The sheet that is read (`Reading`), what each step after it hands on (`Handing`), and that 5 is never told (`Lengths`).
+-- The sheet that is read (`Reading`), what each step after it hands on (`Handing`), that 5 is never told (`Lengths`), and that small arrays do as well as
+-- the large ones: connection's for a short list (`Outlines`), the pool where it is not full (`Room`).
 pub mod Reading
+pub mod Empty
 pub mod Handing
 pub mod Refusals
 pub mod Texts
+pub mod Outlines
 pub mod Lengths
+pub mod Room

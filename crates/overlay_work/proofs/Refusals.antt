@@ -79,7 +79,7 @@ read-by b = go (operationOf b)
 
 -- ---- loading
 
-abbrev CheckBy : Check → Type 0
+abbrev pub CheckBy : Check → Type 0
 CheckBy Passed = Unit {0}
 CheckBy (Struck r) = r .number ≢ 5
 

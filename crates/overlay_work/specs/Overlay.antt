@@ -1,10 +1,10 @@
 -- Overlay's work (01, 'The sheet'): the sheet is read, its edges loaded into a pool of 1,024 places and swept, what was taken is connected, and the
 -- contours are printed. The first refusal met is handed on. Last of all the text must fit the lent bytes, else refusal 5 tells the bytes wanted.
 -- Refused bytes stay as lent.
-use mathlib.Core.Bool.{cond}
+use mathlib.Core.Bool.{Bool, false, cond}
 use mathlib.Core.List.{List, _++_, map}
 use Prim.Native.Nat.{ℕ, min}
-use lib.Dec.{ltb}
+use lib.Dec.{eqb, ltb}
 use lib.Ieee.{Float}
 use lib.ListN.{length, take, replicate}
 use lib.Seq.{sets}
@@ -12,6 +12,7 @@ use Rattle.refusals.specs.declared.Refusal.{Refusal}
 use Rattle.numbers.specs.Binary64.{zero}
 use Rattle.events.specs.Pool.{Pool, pool}
 use Rattle.class.specs.declared.Operation.{Operation}
+use Rattle.checks.specs.Checks.{fewEvents}
 use Rattle.sheet.specs.Sheet.{Sheet, mostEdges}
 use Rattle.sheet.specs.Reading as Reading
 use Rattle.sheet.specs.Reading.{Reading, readSheet}
@@ -24,6 +25,7 @@ use Rattle.sweep.specs.declared.Outcome as Swept
 use Rattle.sweep.specs.declared.Outcome.the-variants as Sweeping
 use Rattle.sweep.specs.OnPool.{subdividePool}
 use Rattle.sweep.specs.OnPool as Sweeps
+use Rattle.sweep_room.specs.Room.{firstPlaces}
 use Rattle.connection.specs.declared.Outcome as Connected
 use Rattle.connection.specs.declared.Outcome.the-variants as Connecting
 use Rattle.connection.specs.Connection.{Lent, lent, connectEdges}
@@ -43,26 +45,40 @@ poolPlaces = 1024
 abbrev pub contourPlaces : ℕ
 contourPlaces = 512
 
+-- of the smaller arrays for little work
+abbrev pub fewPlaces : ℕ
+fewPlaces = fewEvents
+
+abbrev pub fewContours : ℕ
+fewContours = 128
+
 unfoldable pub noEnds : List (List Float)
 noEnds = replicate mostEdges (replicate 4 zero)
 
 unfoldable pub noLabels : List (List ℕ)
 noLabels = replicate mostEdges (replicate 2 0)
 
-unfoldable pub noPoints : List (List Float)
-noPoints = replicate poolPlaces (replicate 2 zero)
+-- n places
+unfoldable pub noPoints : ℕ → List (List Float)
+noPoints n = replicate n (replicate 2 zero)
 
-unfoldable pub noMarks : List (List ℕ)
-noMarks = replicate poolPlaces (replicate 12 0)
+unfoldable pub noMarks : ℕ → List (List ℕ)
+noMarks n = replicate n (replicate 12 0)
 
-unfoldable pub noneTaken : List ℕ
-noneTaken = replicate poolPlaces 0
+unfoldable pub noneTaken : ℕ → List ℕ
+noneTaken n = replicate n 0
 
-unfoldable pub noContours : List (List ℕ)
-noContours = replicate contourPlaces (replicate 6 0)
+abbrev pub emptyPool : ℕ → Pool
+emptyPool n = pool (noPoints n) (noMarks n)
 
-unfoldable pub noHoles : List ℕ
-noHoles = replicate contourPlaces 0
+unfoldable pub noContours : ℕ → List (List ℕ)
+noContours n = replicate n (replicate 6 0)
+
+unfoldable pub noHoles : ℕ → List ℕ
+noHoles n = replicate n 0
+
+abbrev pub emptyOutlines : (corners contours : ℕ) → Lent
+emptyOutlines n k = lent (noPoints n) (noContours k) (noHoles k)
 
 -- ---- the steps, from the last to the first
 
@@ -78,29 +94,29 @@ unfoldable pub afterConnection : Connects.After → Work
 afterConnection x = connectedTo (x .answer .outcome) (x .answer .contours) (x .outlines)
 
 unfoldable pub overlayTaken : Pool → List ℕ → Work
-overlayTaken p list = afterConnection (connectEdges p list (lent noPoints noContours noHoles))
+overlayTaken p list = afterConnection (connectEdges p list (emptyOutlines poolPlaces contourPlaces))
 
 unfoldable pub sweptTo : Swept.Outcome → Pool → List ℕ → Work
 sweptTo Sweeping.Done p list = overlayTaken p list
 sweptTo (Sweeping.Refused r) p list = Stopped r
 
--- the first n places
-abbrev pub firstPlaces : ℕ → Pool → Pool
-firstPlaces n p = pool (take n (p .points)) (take n (p .marks))
-
 -- the events taken, in the places that are in use
 unfoldable pub afterSweep : Sweeps.After → Work
 afterSweep x = sweptTo (x .answer .outcome) (firstPlaces (x .answer .used) (x .pool)) (take (x .answer .taken) (x .taken))
 
-unfoldable pub loadedTo : Operation → Loaded → Pool → Work
-loadedTo o (Loading.Done n) p = afterSweep (subdividePool o p n noneTaken)
-loadedTo o (Loading.Refused r) p = Stopped r
+unfoldable pub loadedTo : Operation → List ℕ → Loaded → Pool → Work
+loadedTo o taken (Loading.Done n) p = afterSweep (subdividePool o p n taken)
+loadedTo o taken (Loading.Refused r) p = Stopped r
 
-unfoldable pub afterLoading : Operation → Loads.After → Work
-afterLoading o x = loadedTo o (x .answer) (x .pool)
+unfoldable pub afterLoading : Operation → List ℕ → Loads.After → Work
+afterLoading o taken x = loadedTo o taken (x .answer) (x .pool)
+
+-- in a pool of n places
+unfoldable pub overlayEdgesIn : ℕ → Operation → List (List Float) → List (List ℕ) → Work
+overlayEdgesIn n o ends labels = afterLoading o (noneTaken n) (load ends labels (emptyPool n))
 
 unfoldable pub overlayEdges : Operation → List (List Float) → List (List ℕ) → Work
-overlayEdges o ends labels = afterLoading o (load ends labels (pool noPoints noMarks))
+overlayEdges o ends labels = overlayEdgesIn poolPlaces o ends labels
 
 unfoldable pub overlaySheet : Sheet → Work
 overlaySheet s =
@@ -129,6 +145,11 @@ left answer out = record { answer = answer; out = out }
 unfoldable pub put : Work → List ℕ → After
 put (Text t) out = cond (ltb (length out) (wanted t)) (left (Refused (record { number = 5; place = wanted t })) out) (left (Printed (wanted t)) (sets out 0 t))
 put (Stopped r) out = left (Refused r) out
+
+-- refused by 6: the pool was full
+unfoldable pub isFull : Overlaid → Bool
+isFull (Printed n) = false
+isFull (Refused r) = eqb (r .number) 6
 
 unfoldable pub overlay : (bytes out : List ℕ) → After
 overlay bytes out = put (work bytes) out

@@ -1,14 +1,18 @@
 // Overlay's work (01, 'The sheet'): from the bytes of a sheet to the bytes of its contours.
 ghost use mathlib.Core.Path.{_≡_};
-ghost use Rattle.overlay_work.specs.Overlay.{left, put, answered, overlayEdges};
+ghost use Rattle.overlay_work.specs.Overlay.{poolPlaces, fewPlaces, left, put, isFull, answered, overlayEdgesIn, overlayEdges};
 ghost use Rattle.overlay_work.specs.Overlay as Spec;
 use class::Operation;
+use places::few_marks;
+use places::few_points;
+use places::few_taken;
 use places::no_ends;
 use places::no_labels;
 use places::no_marks;
 use places::no_points;
 use places::none_taken;
 use printing::print_refusal;
+use refusals::FULL;
 use refusals::Refusal;
 use sheet::Told;
 use sheet::read_sheet;
@@ -23,14 +27,17 @@ pub enum Overlaid {
     Refused(Refusal),
 }
 
-// The edges of a sheet, in a pool of their own.
-fn overlay_edges(
+// So few edges leave a small pool room for as many divisions.
+const FEW_EDGES: usize = 64;
+
+// The edges of a sheet, in the large pool.
+fn overlay_many(
     operation: Operation,
     ends: &[[f64; 4]],
     labels: &[[u32; 2]],
     out: &mut [u8],
 ) -> Overlaid
-    ensures { λ r. ⌜ left r (now (out .exit)) ≡ put (overlayEdges operation (now (ends .entry)) (now (labels .entry))) (now (out .entry)) ⌝ }
+    ensures { λ r. ⌜ left r (now (out .exit)) ≡ put (overlayEdgesIn poolPlaces operation (now (ends .entry)) (now (labels .entry))) (now (out .entry)) ⌝ }
 {
     let mut points = no_points();
     let mut marks = no_marks();
@@ -44,6 +51,57 @@ fn overlay_edges(
         &mut taken,
         out,
     )
+}
+
+// The same in the small one.
+fn overlay_few(
+    operation: Operation,
+    ends: &[[f64; 4]],
+    labels: &[[u32; 2]],
+    out: &mut [u8],
+) -> Overlaid
+    ensures { λ r. ⌜ left r (now (out .exit)) ≡ put (overlayEdgesIn fewPlaces operation (now (ends .entry)) (now (labels .entry))) (now (out .entry)) ⌝ }
+{
+    let mut points = few_points();
+    let mut marks = few_marks();
+    let mut taken = few_taken();
+    load_edges(
+        operation,
+        ends,
+        labels,
+        &mut points,
+        &mut marks,
+        &mut taken,
+        out,
+    )
+}
+
+fn is_full(overlaid: Overlaid) -> bool
+    ensures { λ r. ⌜ r ≡ isFull overlaid ⌝ }
+{
+    match overlaid {
+        Overlaid::Printed(_) => false,
+        Overlaid::Refused(refusal) => refusal.number == FULL,
+    }
+}
+
+// Few edges are worked in the small pool, and again in the large one only where that is full.
+fn overlay_edges(
+    operation: Operation,
+    ends: &[[f64; 4]],
+    labels: &[[u32; 2]],
+    out: &mut [u8],
+) -> Overlaid
+    ensures { λ r. ⌜ left r (now (out .exit)) ≡ put (overlayEdges operation (now (ends .entry)) (now (labels .entry))) (now (out .entry)) ⌝ }
+{
+    if ends.len() > FEW_EDGES {
+        return overlay_many(operation, ends, labels, out);
+    }
+    let overlaid = overlay_few(operation, ends, labels, out);
+    if is_full(overlaid) {
+        return overlay_many(operation, ends, labels, out);
+    }
+    overlaid
 }
 
 // Prints the contours of a sheet into the lent bytes, which stay as lent where it is refused.

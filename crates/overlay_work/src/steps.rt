@@ -5,11 +5,15 @@ ghost use Rattle.loading.specs.OnPool as Loads;
 ghost use Rattle.sweep.specs.OnPool.{subdividePool};
 ghost use Rattle.connection.specs.Connection.{lent, connectEdges};
 ghost use Rattle.printing.specs.Arrays.{printedArrays};
-ghost use Rattle.overlay_work.specs.Overlay.{Work, left, put, noneTaken, afterConnection, overlayTaken, afterSweep, afterLoading};
+ghost use Rattle.overlay_work.specs.Overlay.{Work, left, put, poolPlaces, contourPlaces, fewPlaces, fewContours, emptyOutlines, afterConnection, overlayTaken, afterSweep, afterLoading};
 use crate::Overlaid;
+use crate::places::few_contours;
+use crate::places::few_holes;
+use crate::places::few_points;
 use crate::places::no_contours;
 use crate::places::no_holes;
 use crate::places::no_points;
+use checks::sizes::FEW;
 use class::Operation;
 use connection::connect_edges;
 use loading::Loaded;
@@ -62,13 +66,13 @@ fn connect_in(
     }
 }
 
-fn connect_taken(
+fn connect_many(
     points: &[[f64; 2]],
     marks: &mut [[u32; 12]],
     list: &[u32],
     out: &mut [u8],
 ) -> Overlaid
-    ensures { λ r. ⌜ left r (now (out .exit)) ≡ put (overlayTaken (pool (now (points .entry)) (now (marks .entry))) (now (list .entry))) (now (out .entry)) ⌝ }
+    ensures { λ r. ⌜ left r (now (out .exit)) ≡ put (afterConnection (connectEdges (pool (now (points .entry)) (now (marks .entry))) (now (list .entry)) (emptyOutlines poolPlaces contourPlaces))) (now (out .entry)) ⌝ }
 {
     let mut corners = no_points();
     let mut contours = no_contours();
@@ -82,6 +86,43 @@ fn connect_taken(
         &mut holes,
         out,
     )
+}
+
+fn connect_few(
+    points: &[[f64; 2]],
+    marks: &mut [[u32; 12]],
+    list: &[u32],
+    out: &mut [u8],
+) -> Overlaid
+    ensures { λ r. ⌜ left r (now (out .exit)) ≡ put (afterConnection (connectEdges (pool (now (points .entry)) (now (marks .entry))) (now (list .entry)) (emptyOutlines fewPlaces fewContours))) (now (out .entry)) ⌝ }
+{
+    let mut corners = few_points();
+    let mut contours = few_contours();
+    let mut holes = few_holes();
+    connect_in(
+        points,
+        marks,
+        list,
+        &mut corners,
+        &mut contours,
+        &mut holes,
+        out,
+    )
+}
+
+// Few events have room enough in the smaller arrays.
+fn connect_taken(
+    points: &[[f64; 2]],
+    marks: &mut [[u32; 12]],
+    list: &[u32],
+    out: &mut [u8],
+) -> Overlaid
+    ensures { λ r. ⌜ left r (now (out .exit)) ≡ put (overlayTaken (pool (now (points .entry)) (now (marks .entry))) (now (list .entry))) (now (out .entry)) ⌝ }
+{
+    if list.len() > FEW {
+        return connect_many(points, marks, list, out);
+    }
+    connect_few(points, marks, list, out)
 }
 
 fn sweep_loaded(
@@ -115,8 +156,7 @@ pub fn load_edges(
     taken: &mut [u32],
     out: &mut [u8],
 ) -> Overlaid
-    requires { ⌜ now taken ≡ noneTaken ⌝ }
-    ensures { λ r. ⌜ left r (now (out .exit)) ≡ put (afterLoading operation (Loads.load (now (ends .entry)) (now (labels .entry)) (pool (now (points .entry)) (now (marks .entry))))) (now (out .entry)) ⌝ }
+    ensures { λ r. ⌜ left r (now (out .exit)) ≡ put (afterLoading operation (now (taken .entry)) (Loads.load (now (ends .entry)) (now (labels .entry)) (pool (now (points .entry)) (now (marks .entry))))) (now (out .entry)) ⌝ }
 {
     match load(ends, labels, points, marks) {
         Loaded::Refused(refusal) => Overlaid::Refused(refusal),

@@ -5,10 +5,10 @@ use Rattle.overlay_work.proofs.steps.load_edges.Statement.{statement}
 use Rattle.overlay_work.proofs.steps.load_edges.Tie as tie
 
 returns : tie.Need-returns
-returns c = unloaded _ _ _ _ _ (c .before .before .before .before .before .load .ensures) _ (c .before .refusal .given .1)
+returns c = unloaded _ _ _ _ _ _ (c .before .before .before .before .before .load .ensures) _ (c .before .refusal .given .1)
 
 returns-2 : tie.Need-returns-2
-returns-2 c = loaded-on _ _ _ _ _ (c .before .before .before .before .before .before .before .before .before .before .before .before .before .before .before .before .load .ensures) _ _ _ (c .before .before .before .before .before .before .before .before .before .before .before .before .used .given .1) (c .before .before .before .before .before .before .before .before .before .before .before .before .before .before .before .before .before .before .before .before .before .pre) (c .before .before .before .before .before .before .sweep-loaded .ensures)
+returns-2 c = loaded-on _ _ _ _ _ _ (c .before .before .before .before .before .before .before .before .before .before .before .before .before .before .before .before .load .ensures) _ _ (c .before .before .before .before .before .before .before .before .before .before .before .before .used .given .1) (c .before .before .before .before .before .before .sweep-loaded .ensures)
 
 pub load-edges-spec : {M : Type 1} → statement M
 load-edges-spec =
