@@ -63,6 +63,19 @@ class Maps(unittest.TestCase):
         self.assertEqual(lines[5:10], [f"{bits(x)} {bits(y)}" for x, y in outer])
         self.assertEqual(lines[10:13], ["parent 0 depth 1", "holes 0", "points 5"])
 
+    def test_strips_across_strips(self):
+        """n by n strips have 8n edges and 8n^2 divisions: 2 by 2 fit a pool of 256 places, 4 by 4 and 5 by 5 one of 1,024, 8 by 8 none."""
+        for n in (2, 4, 5, 8):
+            upright = sum((box(i, 4 * i, 0, 2, 4 * n) for i in range(n)), [])
+            level = sum((box(i, -1, 4 * i + 1, 4 * n, 2) for i in range(n)), [])
+            tiles = [(4 * i, 4 * j + 1) for i in range(n) for j in range(n)]
+            wanted = [contour("-", 0, [], [(x, y), (x + 2, y), (x + 2, y + 2), (x, y + 2), (x, y)]) for x, y in tiles]
+            text = overlay(sheet("intersection", upright, level))
+            if n == 8:
+                self.assertTrue(text.startswith("refused 6 at "))
+            else:
+                self.assertEqual(text, printed(*wanted), n)
+
     def test_nothing(self):
         self.assertEqual(overlay("operation xor\nsubject 0\nclip 0\n"), "contours 0\n")
 
