@@ -64,8 +64,8 @@ class Maps(unittest.TestCase):
         self.assertEqual(lines[10:13], ["parent 0 depth 1", "holes 0", "points 5"])
 
     def test_strips_across_strips(self):
-        """n by n strips have 8n edges and 8n^2 divisions: 2 by 2 fit a pool of 256 places, 4 by 4 and 5 by 5 one of 1,024, 8 by 8 none."""
-        for n in (2, 4, 5, 8):
+        """n by n strips have 8n edges and 8n^2 divisions: 3 by 3 fit a pool of 256 places, 5 by 5 one of 1,024, 8 by 8 none."""
+        for n in (2, 3, 5, 8):
             upright = sum((box(i, 4 * i, 0, 2, 4 * n) for i in range(n)), [])
             level = sum((box(i, -1, 4 * i + 1, 4 * n, 2) for i in range(n)), [])
             tiles = [(4 * i, 4 * j + 1) for i in range(n) for j in range(n)]
@@ -75,6 +75,20 @@ class Maps(unittest.TestCase):
                 self.assertTrue(text.startswith("refused 6 at "))
             else:
                 self.assertEqual(text, printed(*wanted), n)
+
+    def test_few_edges_with_many_divisions(self):
+        """24 edges that fill the small pool give what they give beside a room far away, where they are not tried in it."""
+        teeth = [(0, -10)] + [(2 * i, 100 * (i % 2)) for i in range(1, 11)] + [(22, -10)]
+        subject = [edge(0, *a, *b) for a, b in zip(teeth, teeth[1:] + teeth[:1])]
+        clip = [edge(0, a[1] - 40, a[0] + 40, b[1] - 40, b[0] + 40) for a, b in zip(teeth, teeth[1:] + teeth[:1])]
+        far = contour("-", 0, [], [(900, 0), (901, 0), (901, 1), (900, 1), (900, 0)])
+        for operation in ("intersection", "union", "difference", "xor"):
+            alone = overlay(sheet(operation, subject, clip)).splitlines()
+            self.assertGreater(len(alone), 100)
+            beside = overlay(sheet(operation, subject + box(1, 900, 0, 1, 1), clip)).splitlines()
+            more = [] if operation == "intersection" else far
+            count = int(alone[0].split()[1]) + (1 if more else 0)
+            self.assertEqual(beside, [f"contours {count}"] + alone[1:] + more)
 
     def test_nothing(self):
         self.assertEqual(overlay("operation xor\nsubject 0\nclip 0\n"), "contours 0\n")

@@ -27,8 +27,8 @@ pub enum Overlaid {
     Refused(Refusal),
 }
 
-// So few edges leave a small pool room for as many divisions.
-const FEW_EDGES: usize = 64;
+// To clear the large pool takes longer than to work so few edges, and three strips across three still fit the small one.
+const FEW_EDGES: usize = 24;
 
 // The edges of a sheet, in the large pool.
 fn overlay_many(
