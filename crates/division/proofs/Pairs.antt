@@ -41,16 +41,21 @@ module _ {P : Type 0} {row row' : ℕ → Event P} {used i : ℕ} {c : P} {keep 
   left-paired = let other = p .other in pair (used + 1) o (used + 2) (omega arith) (omega arith) left-partner other-partner
 
   -- a record that is not of the segment, and its partner, are as before
-  kept : (r : ℕ) → Paired row used r → r ≢ i → r ≢ o → Paired row' (used + 2) r
-  kept r q not-own not-other =
+  pub aside : (r : ℕ) → Paired row used r → r ≢ i → r ≢ o → (row' r ≡ row r) × (row' (row r .partner) ≡ row (row r .partner))
+  aside r q not-own not-other =
       let below = q .own in
       let mate-below = q .other in
       let mate = row r .partner in
       let mate-not-own : mate ≢ i = λ e. not-other (sym (q .back) ∙ ap (λ k. row k .partner) e) in
       let mate-not-other : mate ≢ o = λ e. not-own (sym (q .back) ∙ ap (λ k. row k .partner) e ∙ p .back) in
-      let here = h .rest r (λ e. omega arith) (λ e. omega arith) not-own not-other in
-      let there = h .rest mate (λ e. omega arith) (λ e. omega arith) mate-not-own mate-not-other in
-      pair r mate (used + 2) (omega arith) (omega arith) (ap (λ e. e .partner) here) (ap (λ e. e .partner) there ∙ q .back)
+      (h .rest r (λ e. omega arith) (λ e. omega arith) not-own not-other, h .rest mate (λ e. omega arith) (λ e. omega arith) mate-not-own mate-not-other)
+
+  kept : (r : ℕ) → Paired row used r → r ≢ i → r ≢ o → Paired row' (used + 2) r
+  kept r q not-own not-other =
+      let below = q .own in
+      let mate-below = q .other in
+      let same = aside r q not-own not-other in
+      pair r (row r .partner) (used + 2) (omega arith) (omega arith) (ap (λ e. e .partner) (same .0)) (ap (λ e. e .partner) (same .1) ∙ q .back)
 
   pub still-paired : (r : ℕ) → Paired row used r → Paired row' (used + 2) r
   still-paired r q = go (eqb r i) refl (eqb r o) refl

@@ -5,11 +5,12 @@ use mathlib.Core.Logic.{_≢_}
 use mathlib.Core.Bool.{Bool, true, false, cond}
 use Prim.Native.Nat.{ℕ, _+_, _<_, _≤_}
 use native.Mathlib.Omega.{arith}
-use borrow.Author.Tests.{lt-ltb, le-ltb, ltb-true, ltb-false}
-use lib.Dec.{ltb}
+use borrow.Author.Tests.{ltb-true, ltb-false, eqb-true, eqb-false}
+use lib.Dec.{eqb, ltb}
 use Rattle.events.specs.Event.{Event}
 use Rattle.events.specs.Store.{Store, look}
 use Rattle.events.proofs.Stored.{Stored}
+use Rattle.events.proofs.Looks.{look-in, look-out}
 use Rattle.division.specs.Division.{newEnd, linked, parted}
 use Rattle.division.specs.Records.{Parted}
 
@@ -23,15 +24,6 @@ past r n h a b = go (ltb r (n + 1)) refl (ltb r (n + 2)) refl
         let m = ltb-true r (n + 2) k in
         absurd (b (omega arith))
     go false e false k = ltb-false r (n + 2) k
-
-module _ {P S : Type 0} (K : Store P S) where
-  look-in : (s : S) (n r : ℕ) → r < n → look K s n r ≡ K .rowAt s r
-  unfolding look
-  look-in s n r h = rw (lt-ltb r n h)
-
-  look-out : (s : S) (n r : ℕ) → n ≤ r → look K s n r ≡ K .blank r
-  unfolding look
-  look-out s n r h = rw (le-ltb r n h)
 
 module _ {P S : Type 0} {K : Store P S} (L : Stored K) (s : S) (used i : ℕ) (e f : Event P) (c : P) (keep : Bool) where
   abbrev after : S
@@ -96,3 +88,17 @@ module _ {P S : Type 0} {K : Store P S} (L : Stored K) (s : S) (used i : ℕ) (c
           go false t =
               let beyond : used + 2 ≤ r = past r used (ltb-false r used t) a b in
               look-out K s' (used + 2) r beyond ∙ sym (look-out K s used r (omega arith))
+
+-- A record in use after a division is one of four, or was in use before it and is of another segment.
+pub in-parts : (Q : ℕ → Type 0) (used i o : ℕ) → Q used → Q (used + 1) → Q i → Q o → ((r : ℕ) → r < used → r ≢ i → r ≢ o → Q r) → (r : ℕ) → r < used + 2 → Q r
+in-parts Q used i o right left own other rest r l = go (eqb r used) refl (eqb r (used + 1)) refl (eqb r i) refl (eqb r o) refl
+  where
+    go : (a : Bool) → eqb r used ≡ a → (b : Bool) → eqb r (used + 1) ≡ b → (x : Bool) → eqb r i ≡ x → (y : Bool) → eqb r o ≡ y → Q r
+    go true p b q x u y v = rw (eqb-true r used p) right
+    go false p true q x u y v = rw (eqb-true r (used + 1) q) left
+    go false p false q true u y v = rw (eqb-true r i u) own
+    go false p false q false u true v = rw (eqb-true r o v) other
+    go false p false q false u false v =
+        let not-right = eqb-false r used p in
+        let not-left = eqb-false r (used + 1) q in
+        rest r (omega arith) (eqb-false r i u) (eqb-false r o v)

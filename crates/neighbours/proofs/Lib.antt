@@ -1,5 +1,11 @@
--- Laws of neighbours.
+-- Laws of neighbours: what the code does is the definition; and the walk through a meeting, by which facts about runs are proved.
 pub mod Steps
 pub mod Overlaps
 pub mod Meetings
+pub mod Likeness
+pub mod Walk
+pub mod Kept
+pub mod Keyed
+pub mod Both
 pub mod Growth
+pub mod Trace

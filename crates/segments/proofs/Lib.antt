@@ -2,3 +2,4 @@
 pub mod Heights
 pub mod Boxes
 pub mod Certain
+pub mod Crossings

@@ -15,6 +15,7 @@ use Rattle.events.specs.Binary64.{binary64, plain}
 use Rattle.events.specs.Pool.{Pool, rowAt, stored}
 use Rattle.events.specs.Store.{look}
 use Rattle.events.proofs.Stored.{pool-stored}
+use Rattle.events.proofs.Looks.{pool-blanks}
 use Rattle.class.specs.declared.Operation.{Operation}
 use Rattle.checks.specs.declared.Check.the-variants.{Passed, Refused}
 use Rattle.checks.specs.Checks.{maxEvents, missized, sizeRefusal}
@@ -35,8 +36,7 @@ use Rattle.sweep.specs.Run.{isBefore, next, isTied, stepBy, step}
 use Rattle.sweep.specs.Lined.{Good, Lined}
 use Rattle.sweep.specs.OnPool.{sizes, accept}
 use Rattle.sweep.specs.Turn.{state, startTurn, endedTurn, linedTurn, Queues}
-use Rattle.sweep.proofs.Growth.{turned}
-use Rattle.sweep.proofs.Looks.{pool-blanks}
+use Rattle.sweep.proofs.Growth.{turn-size}
 use Rattle.sweep.proofs.Good.{good-checked}
 use Rattle.sweep.proofs.Sweeps.{accepted, places-are}
 use Rattle.sweep.proofs.Lines.{lined-next, lined-tie, lined-step, lined-start}
@@ -117,7 +117,7 @@ module _ {p : Pool} {w : List Bool} {queue : List ℕ} {t : Turn} (q : Queues p 
 
     same-size : stored .size (there .store) ≡ stored .size p
     unfolding takes
-    same-size = turned binary64 stored pool-stored plain op past (takes here e (isTied binary64 stored here e)) e .grows .size
+    same-size = turn-size binary64 stored pool-stored plain op past (takes here e (isTied binary64 stored here e)) e
 
     lined-there : Lined binary64 stored there (relined (there .store) (there .waits) (t .used) (there .used) (length queue) (take (t .waiting - 1) queue))
     unfolding isBefore beforeUsed

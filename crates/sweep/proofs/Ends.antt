@@ -14,7 +14,7 @@ use Rattle.events.specs.Coordinates.{Coordinates, Crossing}
 use Rattle.events.specs.Store.{Store}
 use Rattle.events.proofs.Stored.{Stored}
 use Rattle.class.specs.declared.Operation.{Operation}
-use Rattle.neighbours.proofs.Growth.{Grows, grows-still, grows-then}
+use Rattle.neighbours.proofs.Growth.{Grows, grows-still}
 use Rattle.waiting.specs.Waiting.{flagged}
 use Rattle.sweep.specs.declared.turn.Stop.{Stop}
 use Rattle.sweep.specs.declared.turn.Stop.the-variants.{Going, Ended, Refused}
@@ -24,7 +24,7 @@ use Rattle.sweep.specs.Event.{turn}
 use Rattle.sweep.specs.Run.{next, isTied, stepBy, step, run, subdivide, divisions}
 use Rattle.sweep.specs.Turn.{trues}
 use Rattle.sweep.proofs.Flags.{first-waits, one-less, trues-all}
-use Rattle.sweep.proofs.Growth.{turned}
+use Rattle.sweep.proofs.Growth.{beside, turn-grows}
 
 -- of a sweep of n records of store s, in a state on its way
 pub record Counted {P S : Type 0} (K : Store P S) (s : S) (n : ℕ) (z : State S) : Type 0 where
@@ -55,7 +55,7 @@ module _ {P S : Type 0} (C : Coordinates P) (K : Store P S) (L : Stored K) where
         go : (x : Link) → next C K z ≡ x → Stepped z (stepBy C K crossing op late z x)
         go None h = ended refl
         go (To e) h =
-            let work = turned C K L crossing op late (takes z e (isTied C K z e)) e in
+            let work = beside C K crossing op late (takes z e (isTied C K z e)) e in
             onward (rw (work .waits) (taken-once z e (isTied C K z e) h))
 
     one-more : (l : List ℕ) (e : ℕ) → length (l ++ (e ∷ [])) ≡ length l + 1
@@ -65,13 +65,13 @@ module _ {P S : Type 0} (C : Coordinates P) (K : Store P S) (L : Stored K) where
       counted-to : (z : State S) (e : ℕ) (rival : Bool) → Counted K s n z → next C K z ≡ To e → Counted K s n (turn C K crossing op late (takes z e rival) e)
       unfolding takes
       counted-to z e rival k h =
-          let work = turned C K L crossing op late (takes z e rival) e in
+          let work = beside C K crossing op late (takes z e rival) e in
           let off = taken-once z e rival h in
           let on = one-more (z .taken) e in
           record {
             places = rw (work .waits, work .taken) (omega (arith, off, on, k .places));
             members = rw (work .taken) (omega (arith, on, k .members, work .status));
-            grows = grows-then K _ _ _ _ _ _ (k .grows) (work .grows);
+            grows = turn-grows C K L crossing op late s n (takes z e rival) e (k .grows);
           }
 
       counted-step : (z : State S) → Counted K s n z → Counted K s n (step C K crossing op late z)

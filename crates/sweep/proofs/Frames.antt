@@ -5,23 +5,22 @@ use mathlib.Core.Logic.{_≢_}
 use mathlib.Core.Bool.{Bool}
 use Prim.Native.Nat.{ℕ, _+_, _<_, _≤_}
 use native.Mathlib.Omega.{arith}
-use Rattle.events.specs.Coordinates.{Coordinates}
+use Rattle.events.specs.Coordinates.{Coordinates, Crossing}
 use Rattle.events.specs.Event.{Event}
 use Rattle.events.specs.Store.{Store, look}
 use Rattle.events.proofs.Stored.{Stored}
+use Rattle.events.proofs.Looks.{Blanks}
+use Rattle.events.proofs.Faces.{Face, face-store}
 use Rattle.order.specs.Keys.{keyOf, keyUsed}
-use Rattle.division.specs.declared.Division.{Division}
-use Rattle.division.specs.declared.Division.the-variants.{Done, Refused}
+use Rattle.division.specs.declared.Division.the-variants.{Done}
 use Rattle.division.specs.declared.Divided.{Divided}
-use Rattle.division.specs.Division.{linked, After, divide}
-use Rattle.division.proofs.Outcomes.{as-lent, passed, used-after}
+use Rattle.division.specs.Division.{linked, divide}
+use Rattle.division.proofs.Outcomes.{passed, used-after}
 use Rattle.division.proofs.Sides.{MoveLaws}
 use Rattle.division.proofs.Whole.{Whole, whole}
-use Rattle.neighbours.specs.Step.{cut}
+use Rattle.neighbours.proofs.Kept.{Kept, storeAlone, store-kept}
 use Rattle.sweep.specs.Lined.{Sound, Good}
-use Rattle.sweep.proofs.Looks.{Blanks}
-use Rattle.sweep.proofs.Walk.{Face, face-store, Closed}
-use Rattle.sweep.proofs.Good.{key-alike, good-put, good-cut, left-in-use, segment, key-beside}
+use Rattle.sweep.proofs.Good.{key-alike, good-put, good-divided, left-in-use, segment, key-beside}
 
 -- from a store with n places in use to one with more
 pub record Framed {P S : Type 0} (C : Coordinates P) (K : Store P S) (t : S) (n : ℕ) (s : S) (used : ℕ) : Type 0 where
@@ -63,9 +62,9 @@ module _ {P S : Type 0} {C : Coordinates P} {K : Store P S} (M : MoveLaws C) (st
     same-partner l = ap (λ (x : Event P). x .partner) (w .records .rest r (λ e. omega arith) (λ e. omega arith) not-own not-other)
 
   framed-divided : (s : S) (used i : ℕ) (p : P) → Framed C K t n s used → (d : Divided) → divide C K s used i p .answer ≡ Done d
-      → Good C K (divide C K s used i p .store) (divide C K s used i p .used) → Framed C K t n (divide C K s used i p .store) (divide C K s used i p .used)
+      → Framed C K t n (divide C K s used i p .store) (divide C K s used i p .used)
   unfolding keyUsed
-  framed-divided s used i p h d q g =
+  framed-divided s used i p h d q =
       let ok = passed C K s used i p d q in
       let sound = h .good .sound in
       let own = left-in-use M st bl s used i (ok .left) in
@@ -73,26 +72,14 @@ module _ {P S : Type 0} {C : Coordinates P} {K : Store P S} (M : MoveLaws C) (st
       let more = used-after C K s used i p d q in
       let low = h .low in
       record {
-        good = g;
+        good = good-divided M st bl s used i p (h .good) d q;
         low = omega arith;
         keys = λ r l m. same-key sound own w low r m l ∙ h .keys r l (subst (λ k. k < n) (same-partner sound own w low r m l) m);
       }
 
-  framed-cut : (s : S) (used i : ℕ) (p : P) → Framed C K t n s used → Framed C K t n (cut C K s used i p .store) (cut C K s used i p .used)
-  unfolding cut
-  framed-cut s used i p h = go (divide C K s used i p .answer) refl (good-cut M st bl s used i p (h .good))
-    where
-      a : After S
-      a = divide C K s used i p
-
-      go : (x : Division) → a .answer ≡ x → Good C K (a .store) (a .used) → Framed C K t n (a .store) (a .used)
-      go (Done d) e g = framed-divided s used i p h d e g
-      go (Refused r) e g =
-          let k = as-lent C K s used i p r e in
-          rw (k .store, k .used) h
-
-  pub framed : Closed C K (Framed C K t n) (λ r. Unit {0})
-  framed = record { fits = λ s used h. h .good .fits; put = λ s used i e h u f. framed-put s used i e h f; cuts = framed-cut }
+  pub framed : (crossing : Crossing P) → Kept (storeAlone (λ m s. Framed C K t n s m)) C K crossing
+  framed crossing =
+      store-kept C K crossing (λ m s. Framed C K t n s m) st (λ m s h. h .good .fits) (λ m s i e h f. framed-put s m i e h f) (λ m s i p d h q. framed-divided s m i p h d q)
 
   pub framed-still : Good C K t n → Framed C K t n t n
   framed-still g = record { good = g; low = omega arith; keys = λ r l m. refl }

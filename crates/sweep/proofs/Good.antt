@@ -4,43 +4,40 @@ use mathlib.Core.Logic.{_≢_}
 use mathlib.Core.Bool.{Bool, true, false, cond, true≢false}
 use Prim.Native.Nat.{ℕ, _+_, _<_, _≤_}
 use native.Mathlib.Omega.{arith}
-use lib.Dec.{eqb, ltb}
-use borrow.Author.Tests.{ltb-true, lt-ltb, eqb-true, eqb-false, not-false}
-use Rattle.events.specs.Coordinates.{Coordinates, same, ahead}
+use lib.Dec.{ltb}
+use borrow.Author.Tests.{ltb-true, not-false}
+use Rattle.events.specs.Coordinates.{Coordinates, same, ahead, Crossing}
 use Rattle.events.specs.Event.{Event, key}
 use Rattle.events.specs.Store.{Store, look}
 use Rattle.events.proofs.Stored.{Stored}
+use Rattle.events.proofs.Looks.{Blanks, look-in}
+use Rattle.events.proofs.Faces.{Face, face-store}
 use Rattle.order.specs.Order.{onSide}
 use Rattle.order.specs.Keys.{keyOf, keyUsed}
 use Rattle.order.proofs.Laws.{Valid, ahead-asym}
 use Rattle.checks.specs.Checks.{inOrder}
 use Rattle.checks.specs.Sound as Checked
-use Rattle.division.specs.declared.Division.{Division}
-use Rattle.division.specs.declared.Division.the-variants.{Done, Refused}
+use Rattle.division.specs.declared.Division.the-variants.{Done}
 use Rattle.division.specs.declared.Divided.{Divided}
-use Rattle.division.specs.Division.{moved, misses, newEnd, linked, After, divide}
-use Rattle.division.proofs.Outcomes.{as-lent, same-size, passed, used-after}
+use Rattle.division.specs.Division.{moved, misses, newEnd, linked, divide}
+use Rattle.division.proofs.Records.{in-parts}
+use Rattle.division.proofs.Pairs.{aside}
+use Rattle.division.proofs.Outcomes.{same-size, passed, used-after}
 use Rattle.division.proofs.Sides.{MoveLaws}
 use Rattle.division.proofs.Whole.{Segment, Whole, whole}
-use Rattle.neighbours.specs.Step.{cut}
+use Rattle.neighbours.proofs.Kept.{Invariant, numbersInUse, Kept, used-kept}
 use Rattle.checks.proofs.Unstruck.{neither}
 use Rattle.sweep.specs.Lined.{Sound, Good}
-use Rattle.sweep.proofs.Looks.{Blanks}
-use Rattle.sweep.proofs.Walk.{Face, face-store, Closed}
 
 -- ---- what the checks 2 and 4 leave
 
 module _ {P S : Type 0} (C : Coordinates P) (K : Store P S) where
-  pub in-use : (s : S) (used r : ℕ) → r < used → look K s used r ≡ K .rowAt s r
-  unfolding look
-  in-use s used r l = rw (lt-ltb r used l)
-
   module _ (s : S) (n : ℕ) where
     sound-checked : (r : ℕ) → Checked.Sound C (K .rowAt s) n r → Sound C (look K s n) n r
     unfolding inOrder onSide keyOf key
     sound-checked r x =
-        let here = in-use s n r (x .inside) in
-        let mate : look K s n (look K s n r .partner) ≡ K .rowAt s (K .rowAt s r .partner) = ap (λ (e : Event P). look K s n (e .partner)) here ∙ in-use s n (K .rowAt s r .partner) (x .partner) in
+        let here = look-in K s n r (x .inside) in
+        let mate : look K s n (look K s n r .partner) ≡ K .rowAt s (K .rowAt s r .partner) = ap (λ (e : Event P). look K s n (e .partner)) here ∙ look-in K s n (K .rowAt s r .partner) (x .partner) in
         record {
           paired = record { own = x .inside; other = rw (ap (λ (e : Event P). e .partner) here) (x .partner); back = ap (λ (e : Event P). e .partner) mate ∙ x .paired };
           side = ap₂ (λ (e f : Event P). onSide C (key e (f .point))) here mate ∙ x .ordered;
@@ -138,20 +135,10 @@ module _ {P S : Type 0} {C : Coordinates P} {K : Store P S} (M : MoveLaws C) (st
     abbrev o : ℕ
     o = row i .partner
 
-    -- a record of another segment and its partner are as before
-    beside : (r : ℕ) → r < used → r ≢ i → r ≢ o → (row' r ≡ row r) × (row' (row r .partner) ≡ row (row r .partner))
-    beside r l not-i not-o =
-        let p = h r l .paired in
-        let mate = row r .partner in
-        let mate-below = p .other in
-        let mate-not-i : mate ≢ i = λ e. not-o (sym (p .back) ∙ ap (λ k. row k .partner) e) in
-        let mate-not-o : mate ≢ o = λ e. not-i (sym (p .back) ∙ ap (λ k. row k .partner) e ∙ h i own .paired .back) in
-        (w .records .rest r (λ e. omega arith) (λ e. omega arith) not-i not-o, w .records .rest mate (λ e. omega arith) (λ e. omega arith) mate-not-i mate-not-o)
-
     pub key-beside : (r : ℕ) → r < used → r ≢ i → r ≢ o → keyOf row' r ≡ keyOf row r
     unfolding keyOf
     key-beside r l not-i not-o =
-        let same = beside r l not-i not-o in
+        let same = aside (w .records) (h i own .paired) r (h r l .paired) not-i not-o in
         ap₂ (λ (e f : Event P). key e (f .point)) (same .0) (ap (λ (e : Event P). row' (e .partner)) (same .0) ∙ same .1)
 
     at-i : Sound C row' (used + 2) i
@@ -175,7 +162,7 @@ module _ {P S : Type 0} {C : Coordinates P} {K : Store P S} (M : MoveLaws C) (st
     elsewhere : (r : ℕ) → r < used → r ≢ i → r ≢ o → Sound C row' (used + 2) r
     elsewhere r l not-i not-o =
         let x = h r l in
-        let here = beside r l not-i not-o .0 in
+        let here = aside (w .records) (h i own .paired) r (x .paired) not-i not-o .0 in
         record {
           paired = w .still r (x .paired);
           side = ap (onSide C) (key-beside r l not-i not-o) ∙ x .side;
@@ -183,22 +170,12 @@ module _ {P S : Type 0} {C : Coordinates P} {K : Store P S} (M : MoveLaws C) (st
         }
 
     all-sound : C .fit c ≡ true → (r : ℕ) → r < used + 2 → Sound C row' (used + 2) r
-    all-sound hit r l = go (eqb r used) refl (eqb r (used + 1)) refl (eqb r i) refl (eqb r o) refl
-      where
-        go : (a : Bool) → eqb r used ≡ a → (b : Bool) → eqb r (used + 1) ≡ b → (x : Bool) → eqb r i ≡ x → (y : Bool) → eqb r o ≡ y → Sound C row' (used + 2) r
-        go true p b q x u y v = rw (eqb-true r used p) (at-right hit)
-        go false p true q x u y v = rw (eqb-true r (used + 1) q) (at-left hit)
-        go false p false q true u y v = rw (eqb-true r i u) at-i
-        go false p false q false u true v = rw (eqb-true r o v) at-o
-        go false p false q false u false v =
-            let not-right = eqb-false r used p in
-            let not-left = eqb-false r (used + 1) q in
-            elsewhere r (omega arith) (eqb-false r i u) (eqb-false r o v)
+    all-sound hit = in-parts (Sound C row' (used + 2)) used i o (at-right hit) (at-left hit) at-i at-o elsewhere
 
   good-by : (s : S) (used more : ℕ) → more ≡ used + 2 → used + 2 ≤ K .size s → ((r : ℕ) → r < used + 2 → Sound C (look K s more) (used + 2) r) → Good C K s more
   good-by s used more e f h = record { fits = rw e f; sound = λ r l. subst (λ n. Sound C (look K s more) n r) (sym e) (h r (subst (λ n. r < n) e l)) }
 
-  good-divided : (s : S) (used i : ℕ) (p : P) → Good C K s used → (d : Divided) → divide C K s used i p .answer ≡ Done d
+  pub good-divided : (s : S) (used i : ℕ) (p : P) → Good C K s used → (d : Divided) → divide C K s used i p .answer ≡ Done d
       → Good C K (divide C K s used i p .store) (divide C K s used i p .used)
   good-divided s used i p g d h =
       let ok = passed C K s used i p d h in
@@ -208,21 +185,14 @@ module _ {P S : Type 0} {C : Coordinates P} {K : Store P S} (M : MoveLaws C) (st
       let hit = cut-fit (look K s used i .point) (look K s used (look K s used i .partner) .point) (moved C (look K s used i .point) p) (ok .hits) in
       good-by _ used _ (used-after C K s used i p d h) (rw size (omega arith)) (all-sound (g .sound) (left-in-use s used i (ok .left)) w hit)
 
-  pub good-cut : (s : S) (used i : ℕ) (p : P) → Good C K s used → Good C K (cut C K s used i p .store) (cut C K s used i p .used)
-  unfolding cut
-  good-cut s used i p g = go (divide C K s used i p .answer) refl
-    where
-      a : After S
-      a = divide C K s used i p
+  -- through the whole run; and the numbers at hand are in use
+  unfoldable pub sound : Invariant P S
+  sound = numbersInUse (λ n s. Good C K s n)
 
-      go : (x : Division) → a .answer ≡ x → Good C K (a .store) (a .used)
-      go (Done d) e = good-divided s used i p g d e
-      go (Refused r) e =
-          let k = as-lent C K s used i p r e in
-          rw (k .store, k .used) g
-
-  pub closed : Closed C K (Good C K) (λ r. Unit {0})
-  closed = record { fits = λ s used g. g .fits; put = λ s used i e g n f. good-put s used i e g f; cuts = good-cut }
+  pub sound-kept : (crossing : Crossing P) → Kept sound C K crossing
+  unfolding sound
+  sound-kept crossing =
+      used-kept C K crossing (λ n s. Good C K s n) st (λ n s g. g .fits) (λ n s i e g l f. good-put s n i e g f) (λ n s i p d g h. good-divided s n i p g d h)
 
   -- ---- the order on what is in use
 

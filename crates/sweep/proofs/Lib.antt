@@ -1,14 +1,20 @@
--- Laws of the sweep.
+-- Laws of the sweep: what the code does is the definition; the walk through a run; and what is true of every run.
 pub mod Reaches
 pub mod Turns
 pub mod Flags
 pub mod Queued
 pub mod Runs
+pub mod Abreast
+pub mod Walk
+pub mod Kept
 pub mod Growth
 pub mod Ends
-pub mod Looks
-pub mod Walk
 pub mod Good
+pub mod Inherited
+pub mod OneEdge
+pub mod Points
+pub mod Traces
+pub mod Crossings
 pub mod Frames
 pub mod Lines
 pub mod Sweeps

@@ -1,6 +1,6 @@
 -- The queue through the sweep: its last member is the event to be taken, the one below tells whether another ties, and the work of the event taken leaves
 -- it a queue again, with the new records and the partners that they took put in.
-use mathlib.Core.Path.{_≡_, sym, ap, ap₂, _∙_, subst}
+use mathlib.Core.Path.{_≡_, refl, sym, ap, ap₂, _∙_, subst}
 use mathlib.Core.Logic.{_≢_}
 use mathlib.Core.Bool.{Bool, true, false}
 use mathlib.Core.List.{List, []}
@@ -8,12 +8,12 @@ use Prim.Native.Nat.{ℕ, _+_, _-_, _<_, _≤_}
 use native.Mathlib.Nat.{zero-add}
 use native.Mathlib.Omega.{arith}
 use lib.ListN.{length, take, set}
-use lib.Seq.{getD-set-same, getD-set-other}
-use borrow.Author.Tests.{lt-ltb}
+use borrow.Author.Tests.{lt-ltb, eq-eqb, ne-eqb}
 use Rattle.events.specs.declared.Link.the-variants.{To}
 use Rattle.events.specs.Coordinates.{Coordinates, Crossing}
 use Rattle.events.specs.Store.{Store, look}
 use Rattle.events.proofs.Stored.{Stored}
+use Rattle.events.proofs.Looks.{Blanks}
 use Rattle.order.specs.Order.{before}
 use Rattle.order.specs.Keys.{keyUsed}
 use Rattle.order.proofs.Laws.{total, trans}
@@ -30,22 +30,19 @@ use Rattle.sweep.specs.State.{State, start, takes}
 use Rattle.sweep.specs.Event.{turn}
 use Rattle.sweep.specs.Run.{isBefore, next, isTied}
 use Rattle.sweep.specs.Lined.{Good, Lined}
-use Rattle.sweep.proofs.Flags.{flag-within, all-flagged}
-use Rattle.sweep.proofs.Growth.{Turned, turned}
-use Rattle.sweep.proofs.Looks.{Blanks}
-use Rattle.sweep.proofs.Walk.{all-any, on-turn}
+use Rattle.sweep.proofs.Flags.{down, all-flagged}
+use Rattle.sweep.proofs.Growth.{beside, turn-size}
+use Rattle.sweep.proofs.Kept.{store-turn}
 use Rattle.sweep.proofs.Good.{valid}
 use Rattle.sweep.proofs.Frames.{Framed, framed, framed-still}
 
 -- ---- the flags when one is taken
 
-taken-flag : (w : List Bool) (e : ℕ) → flagged w e ≡ true → flagged (set w e false) e ≡ false
-unfolding flagged
-taken-flag w e h = getD-set-same w e false false (flag-within w e h)
+taken-flag : (w : List Bool) (e : ℕ) → flagged (set w e false) e ≡ false
+taken-flag w e = down w e e ∙ rw (eq-eqb e e refl)
 
 other-flags : (w : List Bool) (e r : ℕ) → r ≢ e → flagged (set w e false) r ≡ flagged w r
-unfolding flagged
-other-flags w e r d = getD-set-other w e r false false d
+other-flags w e r d = down w e r ∙ rw (ne-eqb r e d)
 
 module _ {P S : Type 0} {C : Coordinates P} {K : Store P S} (M : MoveLaws C) (st : Stored K) (bl : Blanks K) where
   -- event order on the records in use
@@ -80,7 +77,7 @@ module _ {P S : Type 0} {C : Coordinates P} {K : Store P S} (M : MoveLaws C) (st
 
     lined-take : (e : ℕ) → next C K s ≡ To e → Queued (flagged (set (s .waits) e false)) (isBefore C K s) (s .used) (take (length l - 1) l)
     lined-take e n =
-        take-is (h .queued) (orders s (h .good)) e (lined-next ∙ n) (flagged (set (s .waits) e false)) (taken-flag (s .waits) e (lined-found e n .waiting))
+        take-is (h .queued) (orders s (h .good)) e (lined-next ∙ n) (flagged (set (s .waits) e false)) (taken-flag (s .waits) e)
         (λ r d. other-flags (s .waits) e r d)
 
   -- ---- the records that came into use, put in
@@ -109,22 +106,19 @@ module _ {P S : Type 0} {C : Coordinates P} {K : Store P S} (M : MoveLaws C) (st
     abbrev s' : State S
     s' = turn C K crossing op past (takes s e b) e
 
-    work : Turned K (takes s e b) s'
-    work = turned C K st crossing op past (takes s e b) e
-
     frame : Framed C K (s .store) (s .used) (s' .store) (s' .used)
     unfolding takes
     frame =
-        on-turn st (Framed C K (s .store) (s .used)) (λ r. Unit {0}) (framed M st bl (s .store) (s .used)) crossing op past (takes s e b) e
-        (record { stores = framed-still M st bl (s .store) (s .used) (h .good); members = all-any (s .status) }) tt .stores
+        store-turn (λ m t. Framed C K (s .store) (s .used) t m) (framed M st bl (s .store) (s .used) crossing) op past (takes s e b) e
+        (framed-still M st bl (s .store) (s .used) (h .good))
 
     flags : s' .waits ≡ set (s .waits) e false
     unfolding takes
-    flags = work .waits
+    flags = beside C K crossing op past (takes s e b) e .waits
 
     size : K .size (s' .store) ≡ K .size (s .store)
     unfolding takes
-    size = work .grows .size
+    size = turn-size C K st crossing op past (takes s e b) e
 
     still-wait : (r : ℕ) → s .used ≤ r → r < K .size (s .store) → flagged (s' .waits) r ≡ true
     still-wait r x y =

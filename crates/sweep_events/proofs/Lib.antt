@@ -1,4 +1,5 @@
 -- Laws of one event's work.
 pub mod Events
-pub mod Growth
+pub mod Walk
+pub mod Adapters
 pub mod Passing

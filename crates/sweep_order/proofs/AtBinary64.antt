@@ -12,6 +12,7 @@ use Rattle.numbers.specs.declared.Coordinate.{Coordinate}
 use Rattle.events.specs.Binary64.{binary64, plain}
 use Rattle.events.specs.Pool.{Pool, size, rowAt, stored}
 use Rattle.events.proofs.Stored.{pool-stored}
+use Rattle.events.proofs.Looks.{pool-blanks}
 use Rattle.class.specs.declared.Operation.{Operation}
 use Rattle.checks.specs.declared.Check.{Check}
 use Rattle.checks.specs.declared.Check.the-variants.{Passed, Refused as Struck}
@@ -30,7 +31,6 @@ use Rattle.loading.proofs.AsLoaded.{as-loaded}
 use Rattle.sweep.specs.Run.{subdivide}
 use Rattle.sweep.specs.OnPool.{After, sizes, accept, answerOf, afterRun, subdividePool}
 use Rattle.sweep.specs.Lined.{Good}
-use Rattle.sweep.proofs.Looks.{pool-blanks}
 use Rattle.sweep_order.specs.Loadings.{NeverTie, OnlyNumbers}
 use Rattle.sweep_order.specs.OnPool.{Reordered, SameSize, SameAfter, OrderFreeCalls}
 use Rattle.sweep_order.proofs.Permuted as Permuted

@@ -10,6 +10,7 @@ use Rattle.events.specs.Binary64.{binary64, plain}
 use Rattle.events.specs.Event.{Event}
 use Rattle.events.specs.Pool.{Pool, pointOf, marksOf, store, size, stored}
 use Rattle.events.proofs.Stored.{pool-stored}
+use Rattle.events.proofs.Looks.{pool-blanks}
 use Rattle.class.specs.declared.Operation.{Operation}
 use Rattle.checks.specs.declared.Check.the-variants.{Passed}
 use Rattle.division.proofs.AtBinary64.{move-laws}
@@ -19,7 +20,6 @@ use Rattle.sweep.specs.State.{State}
 use Rattle.sweep.specs.Run.{subdivide, divisions}
 use Rattle.sweep.specs.OnPool.{After, accept, outcomeOf, answerOf, afterRun, afterChecks, subdividePool}
 use Rattle.sweep.specs.Lined.{Good}
-use Rattle.sweep.proofs.Looks.{pool-blanks}
 use Rattle.sweep_order.specs.SameBut.{renameStop, SameBut}
 use Rattle.sweep_order.specs.Loadings.{after}
 use Rattle.sweep_order.specs.OnPool.{renameOutcome, renameSwept, AsLent, SameAfter}

@@ -17,7 +17,6 @@ use Rattle.division.proofs.AtBinary64.{move-laws}
 use Rattle.loading.specs.Loading.{Edge, loaded, checkedEdge, checkedEdges}
 use Rattle.sweep.specs.State.{State}
 use Rattle.sweep.specs.Run.{subdivide}
-use Rattle.sweep.proofs.Looks.{pool-blanks}
 use Rattle.sweep_order.specs.Loadings.{OrderFree}
 use Rattle.sweep_order.proofs.Order.{order-free}
 use Rattle.numbers.specs.Binary64 as N
@@ -31,6 +30,7 @@ use Rattle.events.specs.Event as Ev
 use Rattle.events.specs.Store as St
 use Rattle.events.specs.Pool as P
 use Rattle.events.specs.Binary64 as B
+use Rattle.events.proofs.Looks.{pool-blanks}
 use Rattle.order.specs.Order as Or
 use Rattle.order.specs.Keys as Ke
 use Rattle.segments.specs.Segments as Se

@@ -2,10 +2,8 @@
 pub mod Renamings
 pub mod Scan
 pub mod Twins
-pub mod Cuts
-pub mod Meetings
-pub mod Places
-pub mod Turns
+pub mod Classes
+pub mod Alike
 pub mod Farthest
 pub mod Told
 pub mod Runs

@@ -11,6 +11,7 @@ use Rattle.events.specs.Coordinates.{Coordinates, Crossing}
 use Rattle.events.specs.Renaming.{rename}
 use Rattle.events.specs.Store.{Store}
 use Rattle.events.proofs.Stored.{Stored}
+use Rattle.events.proofs.Looks.{Blanks, look-in}
 use Rattle.class.specs.declared.Operation.{Operation}
 use Rattle.division.proofs.Sides.{MoveLaws}
 use Rattle.checks.specs.declared.Check.the-variants.{Passed}
@@ -23,8 +24,7 @@ use Rattle.sweep.specs.State.{State, start, halt, goOn}
 use Rattle.sweep.specs.Bounds.{past}
 use Rattle.sweep.specs.Run.{isBefore, next, isTied, stepBy, step, run, subdivide}
 use Rattle.sweep.specs.Lined.{Good}
-use Rattle.sweep.proofs.Looks.{Blanks}
-use Rattle.sweep.proofs.Good.{in-use}
+use Rattle.sweep.proofs.Walk.{onward}
 use Rattle.sweep_order.specs.SameBut.{Renaming, SameBut}
 use Rattle.sweep_order.specs.Loadings.{NoTwoTie, after, NeverTie, OnlyNumbers, OrderFree}
 use Rattle.sweep_order.proofs.Renamings.{below-to}
@@ -38,15 +38,15 @@ use Rattle.sweep_order.proofs.Started.{sim-start, twin-loaded, good-loa
 module _ {P S : Type 0} {C : Coordinates P} {K : Store P S} (M : MoveLaws C) (st : Stored K) (bl : Blanks K) (crossing : Crossing P) (op : Operation) where
   module _ {n : ℕ} {ρ : Renaming n} {s s′ : S} (t : Twin K ρ s s′ n) (g : Good C K s n) where
     rows : (r : ℕ) → r < n → K .rowAt s′ (ρ .to r) ≡ rename (ρ .to) (K .rowAt s r)
-    rows r l = sym (in-use C K s′ n (ρ .to r) (below-to ρ n r (t .grown) l)) ∙ t .looks r ∙ ap (rename (ρ .to)) (in-use C K s n r l)
+    rows r l = sym (look-in K s′ n (ρ .to r) (below-to ρ n r (t .grown) l)) ∙ t .looks r ∙ ap (rename (ρ .to)) (look-in K s n r l)
 
     bound : (p : P) → C .fit p ≡ true → past C op (K .rowAt s′) n p ≡ past C op (K .rowAt s) n p
     bound p h =
-        same-past (M .order) p (M .fine p h) ρ (K .rowAt s) (K .rowAt s′) rows (λ r l. M .fine (K .rowAt s r .point) (ap (λ e. C .fit (e .point)) (sym (in-use C K s n r l)) ∙ g .sound r l .fit)) op
+        same-past (M .order) p (M .fine p h) ρ (K .rowAt s) (K .rowAt s′) rows (λ r l. M .fine (K .rowAt s r .point) (ap (λ e. C .fit (e .point)) (sym (look-in K s n r l)) ∙ g .sound r l .fit)) op
 
     each : (k : ℕ) → after C K crossing op k s n .tied ≡ false → SameBut K (ρ .to) (after C K crossing op k s n) (after C K crossing op k s′ n)
     unfolding after start
-    each k h = same-but C K (sim-run M st bl crossing op (past C op (K .rowAt s) n) (past C op (K .rowAt s′) n) bound k _ _ (sim-start t) g h)
+    each k h = same-but M st bl ρ (sim-run M st bl crossing op ρ (past C op (K .rowAt s) n) (past C op (K .rowAt s′) n) bound k _ _ (sim-start M st bl ρ t g) h)
 
     only-numbers : subdivide C K crossing op s n .tied ≡ false → OnlyNumbers C K crossing op n s s′
     unfolding subdivide after
@@ -90,11 +90,8 @@ module _ {P S : Type 0} (C : Coordinates P) (K : Store P S) (crossing : Crossing
       Rest : Type 0
       Rest = (u : State S) → Apart u → u .tied ≡ false → run C K crossing op past k u .tied ≡ false
 
-      later : s .stop ≡ Going → (j : ℕ) → run C K crossing op past (suc j) s ≡ run C K crossing op past j (step C K crossing op past s)
-      later e j = ap (λ (x : Stop). goOn x s (λ u. run C K crossing op past j (step C K crossing op past u))) e
-
       go : (x : Stop) → s .stop ≡ x → Rest → goOn x s (λ u. run C K crossing op past k (step C K crossing op past u)) .tied ≡ false
-      go Going e ih = ih (step C K crossing op past s) (λ j. subst (λ (u : State S). u .stop ≡ Going → NoTwoTie C K u) (later e j) (t (suc j))) (untied-by s (next C K s) refl (t 0 e) h)
+      go Going e ih = ih (step C K crossing op past s) (λ j. subst (λ (u : State S). u .stop ≡ Going → NoTwoTie C K u) (onward C K crossing op past j s e) (t (suc j))) (untied-by s (next C K s) refl (t 0 e) h)
       go Ended e ih = h
       go (Refused r) e ih = h
 

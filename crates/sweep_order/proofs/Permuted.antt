@@ -10,8 +10,8 @@ use Rattle.events.specs.Coordinates.{Coordinates}
 use Rattle.events.specs.Event.{Event}
 use Rattle.events.specs.Renaming.{renameLink, rename}
 use Rattle.events.specs.Store.{Store}
+use Rattle.events.proofs.Looks.{Blanks}
 use Rattle.loading.specs.Loading.{Edge, end, firstEnd, secondEnd}
-use Rattle.sweep.proofs.Looks.{Blanks}
 use Rattle.sweep_order.specs.SameBut.{Renaming}
 
 -- ---- renamings

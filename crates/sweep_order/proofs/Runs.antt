@@ -1,47 +1,52 @@
 -- Two runs from states that are one but for names stay so, step by step, where no waiting event tied with one taken: the one taken is then strictly
 -- before every other that waits, in both.
-use mathlib.Core.Path.{_≡_, refl, sym, ap, _∙_}
-use mathlib.Core.Bool.{Bool, true, false}
+use mathlib.Core.Path.{_≡_, refl, sym, ap, ap₂, _∙_, subst}
+use mathlib.Core.Bool.{Bool, true, false, cond}
+use mathlib.Core.List.{List, map}
 use Prim.Native.Nat.{ℕ, zero, suc, _<_}
+use lib.ListN.{set}
+use lib.Dec.{eqb}
+use Rattle.refusals.specs.declared.Refusal.{Refusal}
 use Rattle.events.specs.declared.Link.{Link}
 use Rattle.events.specs.declared.Link.the-variants.{None, To}
 use Rattle.events.specs.Coordinates.{Coordinates, Crossing}
+use Rattle.events.specs.Event.{Event}
 use Rattle.events.specs.Renaming.{rename}
 use Rattle.events.specs.Store.{Store, look}
 use Rattle.events.proofs.Stored.{Stored}
-use Rattle.order.specs.Order.{before}
+use Rattle.events.proofs.Looks.{Blanks, look-in}
 use Rattle.order.specs.Keys.{keyUsed}
 use Rattle.order.proofs.Laws.{otherwise, trans}
 use Rattle.class.specs.declared.Operation.{Operation}
 use Rattle.division.proofs.Sides.{MoveLaws}
+use Rattle.neighbours.proofs.Likeness.{Likeness}
+use Rattle.neighbours.proofs.Kept.{Invariant, numbersInUse}
+use Rattle.neighbours.proofs.Both.{both, stores, numbers, store-known, number-known, numbers-both}
 use Rattle.waiting.specs.Waiting.{first, rivalled, flagged}
 use Rattle.waiting.proofs.First.{found}
+use Rattle.sweep_events.proofs.Adapters.{events-both}
 use Rattle.sweep.specs.declared.turn.Stop.{Stop}
 use Rattle.sweep.specs.declared.turn.Stop.the-variants.{Going, Ended, Refused}
-use Rattle.sweep.specs.State.{State, halt, takes, goOn}
+use Rattle.sweep.specs.State.{State}
 use Rattle.sweep.specs.Run.{isBefore, next, isTied, stepBy, step, run}
 use Rattle.sweep.specs.Lined.{Good}
-use Rattle.sweep.proofs.Looks.{Blanks}
-use Rattle.sweep.proofs.Walk.{all-any, on-turn}
-use Rattle.sweep.proofs.Good.{in-use, closed, valid}
-use Rattle.sweep_order.specs.SameBut.{Renaming, renameStop, SameBut}
-use Rattle.sweep_order.proofs.Renamings.{below-to}
+use Rattle.sweep.proofs.Flags.{down}
+use Rattle.sweep.proofs.Abreast.{lists-map, StopsAlike, going, ended, refused, Abreast, on, StatesAlike, together, gone}
+use Rattle.sweep.proofs.Walk.{NextAlike, over, takes-up, TurnLaws, RunLaws, onward, alike-run}
+use Rattle.sweep.proofs.Good.{sound, sound-kept, valid}
+use Rattle.sweep_order.specs.SameBut.{Renaming, renameRefusal, renameStop, SameBut}
+use Rattle.sweep_order.proofs.Renamings.{below-to, eqb-to}
 use Rattle.sweep_order.proofs.Told.{untied-at}
 use Rattle.sweep_order.proofs.Scan.{Strict, strict, none-to, first-to, unrivalled-to}
-use Rattle.sweep_order.proofs.Twins.{before-to}
-use Rattle.sweep_order.proofs.Turns.{Sim, sim-halt, sim-takes, sim-turn}
+use Rattle.sweep_order.proofs.Twins.{Twin, point-to, before-to}
+use Rattle.sweep_order.proofs.Alike.{Renamed, renamed, to-is, renames, turns-to}
+
+-- what waits, under new names
+abbrev pub Flags : (ℕ → ℕ) → List Bool → List Bool → Type 0
+Flags f w w′ = (r : ℕ) → flagged w′ (f r) ≡ flagged w r
 
 module _ {P S : Type 0} {C : Coordinates P} {K : Store P S} (M : MoveLaws C) (st : Stored K) (bl : Blanks K) where
-  abbrev Fine : State S → Type 0
-  Fine s = Good C K (s .store) (s .used)
-
-  good-stepBy : (crossing : Crossing P) (op : Operation) (past : P → Bool) (s : State S) (o : Link) → Fine s → Fine (stepBy C K crossing op past s o)
-  unfolding stepBy halt takes
-  good-stepBy crossing op past s None g = g
-  good-stepBy crossing op past s (To e) g =
-      on-turn st (Good C K) (λ r. Unit {0}) (closed M st bl) crossing op past (takes s e (isTied C K s e)) e (record { stores = g; members = all-any (s .status) }) tt .stores
-
-  strictly : (s : State S) → Fine s → (e : ℕ) → next C K s ≡ To e → isTied C K s e ≡ false → Strict (flagged (s .waits)) (isBefore C K s) e (s .used)
+  strictly : (s : State S) → Good C K (s .store) (s .used) → (e : ℕ) → next C K s ≡ To e → isTied C K s e ≡ false → Strict (flagged (s .waits)) (isBefore C K s) e (s .used)
   unfolding next isTied isBefore
   strictly s g e h u =
       let v = valid M st bl (s .store) (s .used) g in
@@ -52,81 +57,88 @@ module _ {P S : Type 0} {C : Coordinates P} {K : Store P S} (M : MoveLaws C) (st
 
 -- ---- two runs
 
-module _ {P S : Type 0} {C : Coordinates P} {K : Store P S} (M : MoveLaws C) (st : Stored K) (bl : Blanks K) (crossing : Crossing P) (op : Operation) {n : ℕ} {ρ : Renaming n} (past past′ : P → Bool)
+module _ {P S : Type 0} {C : Coordinates P} {K : Store P S} (M : MoveLaws C) (st : Stored K) (bl : Blanks K) (crossing : Crossing P) (op : Operation) {n : ℕ} (ρ : Renaming n) (past past′ : P → Bool)
     (same-past : (p : P) → C .fit p ≡ true → past′ p ≡ past p) where
-  module _ {s s′ : State S} (m : Sim K ρ s s′) where
-    order-to : (q r : ℕ) → isBefore C K s′ (ρ .to q) (ρ .to r) ≡ isBefore C K s q r
-    unfolding isBefore
-    order-to q r = ap (λ u. before C (keyUsed K (s′ .store) u (ρ .to q)) (keyUsed K (s′ .store) u (ρ .to r))) (m .used) ∙ before-to (m .stores) C q r
+  abbrev I : Invariant P S
+  I = sound M st bl
 
-    next-none : next C K s ≡ None → next C K s′ ≡ None
-    unfolding next
-    next-none h = ap (first (flagged (s′ .waits)) (isBefore C K s′)) (m .used) ∙ none-to ρ _ _ (isBefore C K s) (isBefore C K s′) (m .waits) order-to (s .used) (m .stores .grown) h
+  abbrev A : Likeness P S P S
+  A = renames K ρ
 
-    module _ (e : ℕ) (h : next C K s ≡ To e) (u : Strict (flagged (s .waits)) (isBefore C K s) e (s .used)) where
-      next-some : next C K s′ ≡ To (ρ .to e)
-      unfolding next
-      next-some =
-          ap (first (flagged (s′ .waits)) (isBefore C K s′)) (m .used)
-          ∙ first-to ρ _ _ (isBefore C K s) (isBefore C K s′) (m .waits) order-to (s .used) (m .stores .grown) e h u
+  abbrev B : Likeness P S P S
+  B = both A I
 
-      untied-next : isTied C K s′ (ρ .to e) ≡ false
-      unfolding next isTied
-      untied-next =
-          ap (rivalled (flagged (s′ .waits)) (isBefore C K s′) (ρ .to e)) (m .used)
-          ∙ unrivalled-to ρ _ _ (isBefore C K s) (isBefore C K s′) (m .waits) order-to (s .used) (m .stores .grown) e h u
+  -- the other turn ends the run at the same events
+  sound-turns : TurnLaws B op C K crossing past op C K crossing past′
+  unfolding renames sound numbersInUse
+  sound-turns =
+      let T = turns-to C st ρ crossing op past in
+      record {
+        events = events-both (T .events) I (sound-kept M st bl crossing);
+        lefts = λ w h. T .lefts (stores A I w) (numbers A I h);
+        lates = λ {n = m} {s} {s′} {e} w h.
+            ap (λ k. past′ (look K s′ m k .point)) (to-is (numbers A I h .alike)) ∙ ap past′ (point-to (stores A I w .alike) e) ∙ same-past _ (store-known A I w .sound e (number-known A I h) .fit);
+        mates = λ w h l. T .mates (stores A I w) (numbers A I h) (numbers A I l);
+      }
 
-    -- one step, whatever was found
-    module _ (g : Good C K (s .store) (s .used)) where
-      sim-none : next C K s ≡ None → Sim K ρ (stepBy C K crossing op past s None) (stepBy C K crossing op past′ s′ None)
-      unfolding stepBy renameStop
-      sim-none h = sim-halt C st m Ended Ended refl
-
-      sim-some : (e : ℕ) → next C K s ≡ To e → isTied C K s e ≡ false → isTied C K s′ (ρ .to e) ≡ false
-          → Sim K ρ (stepBy C K crossing op past s (To e)) (stepBy C K crossing op past′ s′ (To (ρ .to e)))
-      unfolding stepBy next takes
-      sim-some e h u u′ =
-          let f = found (flagged (s .waits)) (isBefore C K s) (s .used) e h in
-          sim-turn C st crossing op past past′ (sim-takes C st m e (isTied C K s e) (isTied C K s′ (ρ .to e)) (u′ ∙ sym u)) e
-          (same-past (look K (s .store) (s .used) e .point) (g .sound e (f .below) .fit))
-
-  pub sim-run : (k : ℕ) (s s′ : State S) → Sim K ρ s s′ → Good C K (s .store) (s .used) → run C K crossing op past k s .tied ≡ false
-      → Sim K ρ (run C K crossing op past k s) (run C K crossing op past′ k s′)
-  unfolding run goOn renameStop step
-  sim-run zero s s′ m g h = m
-  sim-run (suc k) s s′ m g h = go (sim-run k) (s .stop) (s′ .stop) (m .stop) h
+  nexts-to : (k : ℕ) {z z′ : State S} → Abreast B (Flags (ρ .to)) z z′ → z .stop ≡ Going → run C K crossing op past (suc k) z .tied ≡ false → NextAlike B C K C K z z′
+  unfolding renames sound numbersInUse next isTied isBefore step
+  nexts-to k {z} {z′} (on {n = m} {s} {s′} b v f h g y) q c = go (next C K z) refl
     where
-      Rest : Type 0
-      Rest = (t t′ : State S) → Sim K ρ t t′ → Good C K (t .store) (t .used) → run C K crossing op past k t .tied ≡ false
-          → Sim K ρ (run C K crossing op past k t) (run C K crossing op past′ k t′)
+      t : Twin K ρ s s′ m
+      t = stores A I v .alike
 
-      one : Rest → (o : Link) → next C K s ≡ o → run C K crossing op past k (stepBy C K crossing op past s o) .tied ≡ false
-          → Sim K ρ (run C K crossing op past k (stepBy C K crossing op past s o)) (run C K crossing op past′ k (stepBy C K crossing op past′ s′ (next C K s′)))
-      one ih None e h = rw (next-none m e) (ih _ _ (sim-none m g e) (good-stepBy M st bl crossing op past s None g) h)
-      one ih (To x) e h =
-          let u = untied-at C K crossing op past k s x h in
-          let a = strictly M st bl s g x e u in
-          rw (next-some m x e a) (ih _ _ (sim-some m g x e u (untied-next m x e a)) (good-stepBy M st bl crossing op past s (To x) g) h)
+      order-to : (a c : ℕ) → isBefore C K z′ (ρ .to a) (ρ .to c) ≡ isBefore C K z a c
+      order-to a c = before-to t C a c
 
-      go : Rest → (y y′ : Stop) → y′ ≡ renameStop (ρ .to) y → goOn y s (λ t. run C K crossing op past k (step C K crossing op past t)) .tied ≡ false
-          → Sim K ρ (goOn y s (λ t. run C K crossing op past k (step C K crossing op past t))) (goOn y′ s′ (λ t. run C K crossing op past′ k (step C K crossing op past′ t)))
-      go ih Going y′ e h = rw e (one ih (next C K s) refl h)
-      go ih Ended y′ e h = rw e m
-      go ih (Refused r) y′ e h = rw e m
+      go : (o : Link) → next C K z ≡ o → NextAlike B C K C K z z′
+      go None p = over p (none-to ρ _ _ (isBefore C K z) (isBefore C K z′) f order-to m (t .grown) p)
+      go (To e) p =
+          let here = subst (λ (o : Link). run C K crossing op past k (stepBy C K crossing op past z o) .tied ≡ false) p (sym (ap (λ (x : State S). x .tied) (onward C K crossing op past k z q)) ∙ c) in
+          let untied = untied-at C K crossing op past k z e here in
+          let first = strictly M st bl z (store-known A I v) e p untied in
+          takes-up p (first-to ρ _ _ (isBefore C K z) (isBefore C K z′) f order-to m (t .grown) e p first)
+          (numbers-both A I (record { alike = renamed }) (found (flagged (z .waits)) (isBefore C K z) m e p .below))
+          (unrivalled-to ρ _ _ (isBefore C K z) (isBefore C K z′) f order-to m (t .grown) e p first ∙ sym untied)
+
+  runs-to : RunLaws B (Flags (ρ .to)) op C K crossing past op C K crossing past′ (λ k z. run C K crossing op past k z .tied ≡ false)
+  unfolding renames step
+  runs-to =
+      record {
+        turns = sound-turns;
+        downs = λ {w = w} {w′} {e} f h. λ r.
+            ap (λ k. flagged (set w′ k false) (ρ .to r)) (to-is (numbers A I h .alike)) ∙ down w′ (ρ .to e) (ρ .to r) ∙ rw (eqb-to ρ r e, f r) (sym (down w e r));
+        nexts = λ {k} a q c. nexts-to k a q c;
+        calm = λ {k} {z} q c. sym (ap (λ (x : State S). x .tied) (onward C K crossing op past k z q)) ∙ c;
+      }
+
+  pub sim-run : (k : ℕ) (s s′ : State S) → Abreast B (Flags (ρ .to)) s s′ → run C K crossing op past k s .tied ≡ false
+      → StatesAlike B (Flags (ρ .to)) (run C K crossing op past k s) (run C K crossing op past′ k s′)
+  sim-run k s s′ m h = alike-run runs-to k s s′ h (together m)
 
 -- ---- what is told
 
-module _ {P S : Type 0} (C : Coordinates P) (K : Store P S) where
-  pub same-but : {n : ℕ} {ρ : Renaming n} {s s′ : State S} → Sim K ρ s s′ → SameBut K (ρ .to) s s′
-  same-but {n} {ρ} {s} {s′} m =
+module _ {P S : Type 0} {C : Coordinates P} {K : Store P S} (M : MoveLaws C) (st : Stored K) (bl : Blanks K) {n : ℕ} (ρ : Renaming n) where
+  abbrev B′ : Likeness P S P S
+  B′ = both (renames K ρ) (sound M st bl)
+
+  stop-to : {x x′ : Stop} → StopsAlike B′ x x′ → x′ ≡ renameStop (ρ .to) x
+  unfolding both renames renameStop
+  stop-to going = refl
+  stop-to ended = refl
+  stop-to (refused t) = ap Refused (to-is (t .0))
+
+  pub same-but : {s s′ : State S} → StatesAlike B′ (Flags (ρ .to)) s s′ → SameBut K (ρ .to) s s′
+  unfolding both renames sound numbersInUse
+  same-but (together (on {n = m} {s} {s′} b v f h g y)) =
+      let t = v .alike .0 in
       record {
-        used = m .used;
-        records = λ r l.
-            sym (in-use C K (s′ .store) (s .used) (ρ .to r) (below-to ρ (s .used) r (m .stores .grown) l)) ∙ m .stores .looks r
-            ∙ ap (rename (ρ .to)) (in-use C K (s .store) (s .used) r l);
-        waits = m .waits;
-        status = m .status;
-        taken = m .taken;
-        tied = m .tied;
-        stop = m .stop;
+        used = refl;
+        records = λ r l. sym (look-in K s′ m (ρ .to r) (below-to ρ m r (t .grown) l)) ∙ t .looks r ∙ ap (rename (ρ .to)) (look-in K s m r l);
+        waits = f;
+        status = lists-map (ρ .to) (λ r r′ k. to-is (k .alike .0)) h;
+        taken = lists-map (ρ .to) (λ r r′ k. to-is (k .alike .0)) g;
+        tied = refl;
+        stop = stop-to y;
       }
+  same-but (gone o) = absurd o

@@ -14,6 +14,7 @@ use Rattle.events.specs.Event.{Event}
 use Rattle.events.specs.Renaming.{renameLink, rename}
 use Rattle.events.specs.Store.{Store, look}
 use Rattle.events.proofs.Stored.{Stored}
+use Rattle.events.proofs.Looks.{Blanks}
 use Rattle.checks.specs.declared.Check.the-variants.{Passed}
 use Rattle.order.proofs.Laws.{ahead-apart}
 use Rattle.division.proofs.Sides.{MoveLaws}
@@ -22,29 +23,25 @@ use Rattle.loading.proofs.Rows.{rows, size-loaded}
 use Rattle.loading.proofs.AsLoaded.{sounds}
 use Rattle.sweep.specs.State.{start}
 use Rattle.sweep.specs.Lined.{Good}
+use Rattle.neighbours.proofs.Kept.{numbersInUse}
+use Rattle.neighbours.proofs.Both.{both}
+use Rattle.sweep.proofs.Abreast.{empty, going, Abreast, on}
 use Rattle.sweep.proofs.Flags.{all-flagged}
-use Rattle.sweep.proofs.Looks.{Blanks}
-use Rattle.sweep.proofs.Good.{good-checked}
-use Rattle.sweep_order.specs.SameBut.{Renaming, renameStop}
+use Rattle.sweep.proofs.Good.{good-checked, sound}
+use Rattle.sweep_order.specs.SameBut.{Renaming}
 use Rattle.sweep_order.proofs.Renamings.{ltb-to}
 use Rattle.sweep_order.proofs.Twins.{Twin}
-use Rattle.sweep_order.proofs.Turns.{Sim}
+use Rattle.sweep_order.proofs.Alike.{renames}
+use Rattle.sweep_order.proofs.Runs.{Flags}
 use Rattle.sweep_order.proofs.Permuted.{renamingOf, two, at, at-to}
 use Rattle.sweep_order.proofs.Loaded.{loaded-at}
 
-module _ {P S : Type 0} {K : Store P S} {n : ℕ} {ρ : Renaming n} where
-  pub sim-start : {s s′ : S} → Twin K ρ s s′ n → Sim K ρ (start s (K .size s) n) (start s′ (K .size s′) n)
-  unfolding start renameStop
-  sim-start {s} {s′} t =
-      record {
-        used = refl;
-        stores = t;
-        waits = λ r. all-flagged (K .size s′) (ρ .to r) ∙ ap (ltb (ρ .to r)) (t .size) ∙ ltb-to ρ (K .size s) r (t .fits) ∙ sym (all-flagged (K .size s) r);
-        status = refl;
-        taken = refl;
-        tied = refl;
-        stop = refl;
-      }
+module _ {P S : Type 0} {C : Coordinates P} {K : Store P S} (M : MoveLaws C) (st : Stored K) (bl : Blanks K) {n : ℕ} (ρ : Renaming n) where
+  pub sim-start : {s s′ : S} → Twin K ρ s s′ n → Good C K s n → Abreast (both (renames K ρ) (sound M st bl)) (Flags (ρ .to)) (start s (K .size s) n) (start s′ (K .size s′) n)
+  unfolding start both renames sound numbersInUse
+  sim-start {s} {s′} t g =
+      on false (record { alike = (t, g) })
+      (λ r. all-flagged (K .size s′) (ρ .to r) ∙ ap (ltb (ρ .to r)) (t .size) ∙ ltb-to ρ (K .size s) r (t .fits) ∙ sym (all-flagged (K .size s) r)) empty empty going
 
 -- ---- the loaded records, read
 

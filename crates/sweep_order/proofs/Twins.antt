@@ -10,9 +10,9 @@ use Rattle.events.specs.Event.{Event, key}
 use Rattle.events.specs.Renaming.{rename}
 use Rattle.events.specs.Store.{Store, look}
 use Rattle.events.proofs.Stored.{Stored}
+use Rattle.events.proofs.Looks.{look-store, look-more}
 use Rattle.order.specs.Order.{before}
 use Rattle.order.specs.Keys.{keyOf, keyUsed}
-use Rattle.sweep.proofs.Looks.{look-store, look-more}
 use Rattle.sweep_order.specs.SameBut.{Renaming}
 use Rattle.sweep_order.proofs.Renamings.{cond-map, eqb-to, eqb-fixed, ltb-to}
 

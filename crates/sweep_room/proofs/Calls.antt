@@ -27,7 +27,7 @@ use Rattle.sweep.specs.OnPool as Sweeps
 use Rattle.sweep.specs.OnPool.{sizes, accept, outcomeOf, answerOf, afterRun, asLent, afterChecks, subdividePool}
 use Rattle.sweep_room.specs.Room.{firstPlaces, Larger, wantsRoom, firstOfLoaded, firstOfSwept}
 use Rattle.sweep_room.proofs.Places.{take-sets}
-use Rattle.sweep_room.proofs.Turns.{stopFull, frontState}
+use Rattle.sweep_room.proofs.Runs.{stopFull, frontState}
 use Rattle.sweep_room.proofs.Sweeps.{subdivide-front}
 use Rattle.sweep_room.proofs.Loaded.{loaded-front}
 use Rattle.sweep_room.proofs.Pools.{wide-pool, points-first, marks-first, row-first, pool-front}

@@ -1,12 +1,8 @@
 -- Laws of a larger pool.
 pub mod Places
 pub mod Fronts
-pub mod Fitting
-pub mod Cuts
-pub mod Meetings
-pub mod Events
-pub mod Turns
 pub mod Scans
+pub mod Alike
 pub mod Runs
 pub mod Sweeps
 pub mod Pools

@@ -1,10 +1,13 @@
--- Runs in the front of a store: the same event is taken at each step, so that a run there leaves what the run in the whole leaves, or wants room.
-use mathlib.Core.Path.{_≡_, refl, ap, _∙_}
+-- RunLaws in the front of a store: the same event is taken at each step, so that a run there leaves what the run in the whole leaves, or wants room.
+use mathlib.Core.Path.{_≡_, refl, sym, ap, ap₂, _∙_}
 use mathlib.Core.Logic.{_≢_}
-use mathlib.Core.Bool.{Bool, true, false, false≢true}
+use mathlib.Core.Bool.{Bool, true, false}
+use mathlib.Core.List.{List, [], _∷_}
 use Prim.Native.Nat.{ℕ, zero, suc, _<_, _≤_}
 use native.Mathlib.Omega.{arith}
+use lib.ListN.{take, set}
 use lib.Seq.{getD-take}
+use lib.Dec.{eqb}
 use Rattle.events.specs.declared.Link.{Link}
 use Rattle.events.specs.declared.Link.the-variants.{None, To}
 use Rattle.events.specs.Coordinates.{Coordinates, Crossing}
@@ -13,31 +16,22 @@ use Rattle.events.specs.Store.{Store}
 use Rattle.events.proofs.Stored.{Stored}
 use Rattle.order.specs.Order.{before}
 use Rattle.class.specs.declared.Operation.{Operation}
+use Rattle.neighbours.proofs.Kept.{same, is}
 use Rattle.waiting.specs.Waiting.{first, rivalled, flagged}
 use Rattle.sweep.specs.declared.turn.Stop.{Stop}
 use Rattle.sweep.specs.declared.turn.Stop.the-variants.{Going, Ended, Refused}
-use Rattle.sweep.specs.State.{State, halt, takes, goOn}
-use Rattle.sweep.specs.Run.{isBefore, next, isTied, stepBy, step, run}
+use Rattle.sweep.specs.State.{State, goOn}
+use Rattle.sweep.specs.Run.{isBefore, next, isTied, step, run}
+use Rattle.sweep.proofs.Abreast.{ListsAlike, empty, joined, lists-equal, StopsAlike, going, ended, refused, stops-equal, state, Abreast, on, StatesAlike, together, gone}
+use Rattle.sweep.proofs.Walk.{NextAlike, over, takes-up, RunLaws, alike-run}
 use Rattle.sweep_room.proofs.Places.{take-set}
 use Rattle.sweep_room.proofs.Fronts.{Front, Within, key-front}
-use Rattle.sweep_room.proofs.Fitting.{same, wants}
 use Rattle.sweep_room.proofs.Scans.{first-alike, rivalled-alike}
-use Rattle.sweep_room.proofs.Turns.{stopFull, frontState, StateFits, fits-turn}
+use Rattle.sweep_room.proofs.Alike.{Fronted, front, fronts, turns-front}
 
 -- ---- runs that are over
 
 module _ {P S : Type 0} (C : Coordinates P) (K : Store P S) (crossing : Crossing P) (op : Operation) (past : P → Bool) where
-  -- a run that wants room is over
-  still-short : (k : ℕ) (s : State S) → stopFull (s .stop) ≡ true → stopFull (run C K crossing op past k s .stop) ≡ true
-  unfolding run goOn stopFull
-  still-short zero s h = h
-  still-short (suc k) s h = go (s .stop) h
-    where
-      go : (x : Stop) → stopFull x ≡ true → stopFull (goOn x s (λ t. run C K crossing op past k (step C K crossing op past t)) .stop) ≡ true
-      go Going f = absurd (false≢true f)
-      go Ended f = h
-      go (Refused r) f = h
-
   -- where a run has come to its end more steps change nothing
   pub run-more : (j k : ℕ) (s : State S) → j ≤ k → run C K crossing op past j s .stop ≢ Going → run C K crossing op past k s ≡ run C K crossing op past j s
   unfolding run goOn
@@ -57,6 +51,62 @@ module _ {P S : Type 0} (C : Coordinates P) (K : Store P S) (crossing : Crossing
       go Going g more = more g
       go Ended g more = refl
       go (Refused r) g more = refl
+
+-- ---- states
+
+-- refused by 6
+unfoldable pub stopFull : Stop → Bool
+stopFull Going = false
+stopFull Ended = false
+stopFull (Refused r) = eqb (r .number) 6
+
+module _ {P S : Type 0} {K : Store P S} {n : ℕ} (F : Front K n) where
+  unfoldable pub frontState : State S → State S
+  frontState s =
+      record { store = F .front (s .store); used = s .used; waits = take n (s .waits); status = s .status; taken = s .taken; tied = s .tied; stop = s .stop }
+
+  abbrev pub First : List Bool → List Bool → Type 0
+  First w w′ = w′ ≡ take n w
+
+  -- what a run leaves in the whole and in the front: the same, looked at in the front, or the one in the front has stopped for want of room
+  pub data StateFits (whole part : State S) : Type 0 where
+    agree : Within K n (whole .store) (whole .used) → part ≡ frontState whole → StateFits whole part
+    wants : stopFull (part .stop) ≡ true → StateFits whole part
+
+  is-front : {m : ℕ} {s s′ : S} → Fronted F m s s′ → s′ ≡ F .front s
+  is-front (front w) = refl
+
+  is-within : {m : ℕ} {s s′ : S} → Fronted F m s s′ → Within K n s m
+  is-within (front w) = w
+
+  is-abreast : {z z′ : State S} → Abreast (fronts F) First z z′ → z′ ≡ frontState z
+  unfolding fronts frontState
+  is-abreast (on {n = m} b v f h g y) =
+      λ i. state (is-front (v .alike) i) m (f i) (lists-equal (λ r r′ k. is (k .alike)) h i) (lists-equal (λ r r′ k. is (k .alike)) g i) b (stops-equal (λ r r′ t. is t) y i)
+
+  abreast-within : {z z′ : State S} → Abreast (fronts F) First z z′ → Within K n (z .store) (z .used)
+  unfolding fronts
+  abreast-within (on b v f h g y) = is-within (v .alike)
+
+  fits : {z z′ : State S} → StatesAlike (fronts F) First z z′ → StateFits z z′
+  unfolding fronts stopFull
+  fits (together a) = agree (abreast-within a) (is-abreast a)
+  fits (gone o) = wants o
+
+  any-list : (m : ℕ) (l : List ℕ) → ListsAlike (fronts F) m l l
+  unfolding fronts
+  any-list m [] = empty
+  any-list m (x ∷ l) = joined (record { alike = same tt }) (any-list m l)
+
+  any-stop : (x : Stop) → StopsAlike (fronts F) x x
+  unfolding fronts
+  any-stop Going = going
+  any-stop Ended = ended
+  any-stop (Refused r) = refused (same tt)
+
+  abreast : (z : State S) → Within K n (z .store) (z .used) → Abreast (fronts F) First z (frontState z)
+  unfolding fronts frontState
+  abreast z w = on (z .tied) (record { alike = front w }) refl (any-list (z .used) (z .status)) (any-list (z .used) (z .taken)) (any-stop (z .stop))
 
 -- ---- steps
 
@@ -78,33 +128,24 @@ module _ {P S : Type 0} (C : Coordinates P) {K : Store P S} (st : Stored K) {n :
     unfolding isTied frontState
     tied-front e = ap (λ b. rivalled (flagged (frontState F s .waits)) b e (s .used)) before-front ∙ rivalled-alike _ _ (isBefore C K s) e (s .used) flags
 
-    takes-front : (e : ℕ) (rival : Bool) → takes (frontState F s) e rival ≡ frontState F (takes s e rival)
-    unfolding takes frontState
-    takes-front e rival = rw (take-set n (s .waits) e false)
-
-  module _ (crossing : Crossing P) (op : Operation) (past : P → Bool) where
-    fits-stepBy : (s : State S) → Within K n (s .store) (s .used) → (o : Link) → StateFits F (stepBy C K crossing op past s o) (stepBy C K crossing op past (frontState F s) o)
-    unfolding stepBy halt frontState takes
-    fits-stepBy s w None = same w refl
-    fits-stepBy s w (To e) =
-        rw (tied-front s w e, takes-front s w e (isTied C K s e)) (fits-turn C st F crossing op (takes s e (isTied C K s e)) w past e)
-
-    fits-step : (s : State S) → Within K n (s .store) (s .used) → StateFits F (step C K crossing op past s) (step C K crossing op past (frontState F s))
-    unfolding step
-    fits-step s w = rw (next-front s w) (fits-stepBy s w (next C K s))
-
-    pub fits-run : (k : ℕ) (s : State S) → Within K n (s .store) (s .used) → StateFits F (run C K crossing op past k s) (run C K crossing op past k (frontState F s))
-    unfolding run goOn frontState
-    fits-run zero s w = same w refl
-    fits-run (suc k) s w = go (fits-run k) (s .stop)
+    next-alike : (s′ : State S) → s′ ≡ frontState F s → NextAlike (fronts F) C K C K s s′
+    unfolding fronts
+    next-alike s′ q = go (next C K s) refl
       where
-        after : ((t : State S) → Within K n (t .store) (t .used) → StateFits F (run C K crossing op past k t) (run C K crossing op past k (frontState F t)))
-            → {t t′ : State S} → StateFits F t t′ → StateFits F (run C K crossing op past k t) (run C K crossing op past k t′)
-        after more {t} {t′} (same v e) = rw e (more t v)
-        after more {t} {t′} (wants q) = wants (still-short C K crossing op past k t′ q)
+        go : (o : Link) → next C K s ≡ o → NextAlike (fronts F) C K C K s s′
+        go None p = over p (ap (next C K) q ∙ next-front ∙ p)
+        go (To e) p = takes-up p (ap (next C K) q ∙ next-front ∙ p) (record { alike = same tt }) (ap (λ z. isTied C K z e) q ∙ tied-front e)
 
-        go : ((t : State S) → Within K n (t .store) (t .used) → StateFits F (run C K crossing op past k t) (run C K crossing op past k (frontState F t)))
-            → (x : Stop) → StateFits F (goOn x s (λ t. run C K crossing op past k (step C K crossing op past t))) (goOn x (frontState F s) (λ t. run C K crossing op past k (step C K crossing op past t)))
-        go more Going = after more (fits-step s w)
-        go more Ended = same w refl
-        go more (Refused r) = same w refl
+  runs-front : (crossing : Crossing P) (op : Operation) (past : P → Bool) → RunLaws (fronts F) (First F) op C K crossing past op C K crossing past (λ k z. Unit {0})
+  unfolding fronts
+  runs-front crossing op past =
+      record {
+        turns = turns-front C st F crossing op past;
+        downs = λ {w = w} {e = e} f h. ap₂ (λ l r. set l r false) f (is (h .alike)) ∙ sym (take-set n w e false);
+        nexts = λ {z} {z′} a q c. next-alike z (abreast-within F a) z′ (is-abreast F a);
+        calm = λ q c. tt;
+      }
+
+  pub fits-run : (crossing : Crossing P) (op : Operation) (past : P → Bool) (k : ℕ) (s : State S) → Within K n (s .store) (s .used)
+      → StateFits F (run C K crossing op past k s) (run C K crossing op past k (frontState F s))
+  fits-run crossing op past k s w = fits F (alike-run (runs-front crossing op past) k s (frontState F s) tt (together (abreast F s w)))

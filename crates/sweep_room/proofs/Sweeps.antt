@@ -15,10 +15,8 @@ use Rattle.sweep.specs.Run.{run, subdivide}
 use Rattle.sweep.proofs.Ends.{ends}
 use Rattle.sweep_room.proofs.Places.{take-alike}
 use Rattle.sweep_room.proofs.Fronts.{Front, Within}
-use Rattle.sweep_room.proofs.Fitting.{same, wants}
 use Rattle.sweep_room.proofs.Scans.{past-alike}
-use Rattle.sweep_room.proofs.Turns.{stopFull, frontState, StateFits}
-use Rattle.sweep_room.proofs.Runs.{fits-run, run-more}
+use Rattle.sweep_room.proofs.Runs.{stopFull, frontState, StateFits, agree, wants, fits-run, run-more}
 
 module _ {P S : Type 0} (C : Coordinates P) {K : Store P S} (st : Stored K) {n : ℕ} (F : Front K n) (crossing : Crossing P) (op : Operation) where
   module _ (s : S) (k : ℕ) (w : Within K n s k) where
@@ -44,7 +42,7 @@ module _ {P S : Type 0} (C : Coordinates P) {K : Store P S} (st : Stored K) {n :
     subdivide-front h = go fits-after
       where
         go : StateFits F after (subdivide C K crossing op (F .front s) k) → subdivide C K crossing op (F .front s) k ≡ frontState F (subdivide C K crossing op s k)
-        go (same v e) =
+        go (agree v e) =
             let wide = w .wide in
             let over : after .stop ≢ Going = λ g. ends C K st crossing op (F .front s) k (ap (λ (t : State S). t .stop) e ∙ g) in
             let more = run-more C K crossing op (past C op (K .rowAt s) k) (suc n) (suc (K .size s)) (start s (K .size s) k) (omega arith) over in

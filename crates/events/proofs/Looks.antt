@@ -1,15 +1,15 @@
--- What is read of a store: where there is no record, and after storing one.
+-- What is read of a store of which the first places are in use: in them, beyond them, and after storing a record.
 use mathlib.Core.Path.{_≡_, refl, ap, _∙_}
 use mathlib.Core.Bool.{Bool, true, false, cond, _&&_}
 use Prim.Native.Nat.{ℕ, _+_, _<_, _≤_}
 use native.Mathlib.Omega.{arith}
 use lib.Dec.{eqb, ltb}
 use borrow.Author.Tests.{ltb-true, ltb-false, eqb-true, eqb-false, lt-ltb, le-ltb}
 use Rattle.events.specs.Event.{Event}
 use Rattle.events.specs.Renaming.{renameLink, rename}
 use Rattle.events.specs.Store.{Store, look}
 use Rattle.events.specs.Pool.{blank, stored}
 use Rattle.events.proofs.Stored.{Stored}
 
 -- what is read where there is no record: it means the same under every numbering, and it is no left end
 pub record Blanks {P S : Type 0} (K : Store P S) : Type 0 where
@@ -20,7 +20,16 @@ pub pool-blanks : Blanks stored
 unfolding stored blank rename renameLink
 pool-blanks = record { renamed = λ f r. refl; right = λ r. refl }
 
--- ---- reading after storing
+module _ {P S : Type 0} (K : Store P S) (s : S) (used r : ℕ) where
+  pub look-in : r < used → look K s used r ≡ K .rowAt s r
+  unfolding look
+  look-in h = rw (lt-ltb r used h)
+
+  pub look-out : used ≤ r → look K s used r ≡ K .blank r
+  unfolding look
+  look-out h = rw (le-ltb r used h)
+
+-- ---- after storing
 
 module _ {P S : Type 0} {K : Store P S} (st : Stored K) (s : S) (e : Event P) (j : ℕ) where
   pub look-store : (used i : ℕ) → used ≤ K .size s → look K (K .store s i e) used j ≡ cond (eqb j i && ltb i used) e (look K s used j)
