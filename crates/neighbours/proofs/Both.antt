@@ -1,10 +1,9 @@
 -- What is alike in two runs, together with an invariant of the first: where each is kept, both are.
-use mathlib.Core.Path.{_≡_}
-use Prim.Native.Nat.{ℕ, _+_, _≤_}
-use Rattle.events.specs.Coordinates.{Coordinates, Cross, none, lost, point, overlap, Crossing}
-use Rattle.events.specs.Store.{Store, look}
+use Prim.Native.Nat.{ℕ}
+use Rattle.events.specs.Coordinates.{Coordinates, Cross, Crossing}
+use Rattle.events.specs.Store.{Store}
 use Rattle.neighbours.specs.Step.{Step}
-use Rattle.neighbours.proofs.Likeness.{Likeness, StoresAlike, NumbersAlike, PointsAlike, StepsAlike, went, halted, out, CrossesAlike, apart, astray, across, along, crossingOf}
+use Rattle.neighbours.proofs.Likeness.{Likeness, StoresAlike, NumbersAlike, PointsAlike, StepsAlike, went, halted, out, CrossesAlike, apart, astray, across, along}
 use Rattle.neighbours.proofs.Walk.{MeetingLaws}
 use Rattle.neighbours.proofs.Kept.{Invariant, Crossed, Kept, known, diagonal, kept-cut}
 

@@ -5,7 +5,6 @@ use native.Mathlib.Omega.{arith}
 use Rattle.events.specs.Coordinates.{Coordinates, Crossing}
 use Rattle.events.specs.Store.{Store}
 use Rattle.events.proofs.Stored.{Stored}
-use Rattle.division.specs.Division.{divide}
 use Rattle.division.proofs.Outcomes.{passed, used-after, same-size}
 use Rattle.neighbours.proofs.Kept.{Kept, storeAlone, any-kept}
 

@@ -1,7 +1,7 @@
 -- One run, as two that are the same: what is known of a store, and is kept where a record is stored over one with its face and where a division is done,
 -- is known after every meeting. What is known of numbers at hand, of points and of refusals goes with it. The two may use crossings of their own, if
 -- these tell the same where all this is known.
-use mathlib.Core.Path.{_≡_, refl, ap, _∙_}
+use mathlib.Core.Path.{_≡_, refl}
 use Prim.Native.Nat.{ℕ, _+_, _<_, _≤_}
 use native.Mathlib.Omega.{arith}
 use lib.Dec.{eqb}
@@ -19,7 +19,7 @@ use Rattle.division.specs.Division.{divide}
 use Rattle.division.proofs.Outcomes.{used-after, as-lent}
 use Rattle.neighbours.specs.Step.{Step, step, stopOf, cut}
 use Rattle.neighbours.specs.Neighbours.{typed, rightOf, atEnd, coincided, beginsFirst, endsFirst, oneLayer}
-use Rattle.neighbours.proofs.Likeness.{Likeness, StoresAlike, NumbersAlike, PointsAlike, StepsAlike, went, halted, CrossesAlike, apart, astray, across, along, crossingOf}
+use Rattle.neighbours.proofs.Likeness.{Likeness, StepsAlike, went, halted, CrossesAlike, apart, astray, across, along, crossingOf}
 use Rattle.neighbours.proofs.Walk.{MeetingLaws}
 
 -- ---- what is known, and what keeps it

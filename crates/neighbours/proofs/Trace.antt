@@ -1,6 +1,6 @@
 -- What was stored on the way, one after the other: records over ones with their faces, and divisions. A trace is an invariant like any other (`Kept`), so
 -- that every run has one, and what is to be shown of runs can be shown of traces. The run's divisions are those of its trace.
-use mathlib.Core.Path.{_≡_, refl}
+use mathlib.Core.Path.{_≡_}
 use Prim.Native.Nat.{ℕ, suc, _+_, _*_, _≤_}
 use native.Mathlib.Omega.{arith}
 use Rattle.events.specs.Coordinates.{Coordinates, Crossing}

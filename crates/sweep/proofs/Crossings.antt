@@ -1,6 +1,6 @@
 -- A sweep of accepted records asks for crossings of fit points alone: two crossings that tell the same of those make the same sweep. So where none of fit
 -- points is lost, whatever stood for Lost would change nothing.
-use mathlib.Core.Path.{_≡_, refl}
+use mathlib.Core.Path.{_≡_}
 use mathlib.Core.Bool.{true}
 use Prim.Native.Nat.{ℕ, suc}
 use Rattle.events.specs.Coordinates.{Coordinates, Crossing}
@@ -10,7 +10,6 @@ use Rattle.events.proofs.Looks.{Blanks}
 use Rattle.class.specs.declared.Operation.{Operation}
 use Rattle.division.proofs.Sides.{MoveLaws}
 use Rattle.neighbours.proofs.Kept.{numbersInUse, Agrees}
-use Rattle.sweep.specs.State.{State}
 use Rattle.sweep.specs.Bounds.{past}
 use Rattle.sweep.specs.Run.{subdivide}
 use Rattle.sweep.specs.Lined.{Good}

@@ -31,23 +31,22 @@ use Rattle.sweep.specs.Lined.{Sound, Good}
 
 -- ---- what the checks 2 and 4 leave
 
-module _ {P S : Type 0} (C : Coordinates P) (K : Store P S) where
-  module _ (s : S) (n : ℕ) where
-    sound-checked : (r : ℕ) → Checked.Sound C (K .rowAt s) n r → Sound C (look K s n) n r
-    unfolding inOrder onSide keyOf key
-    sound-checked r x =
-        let here = look-in K s n r (x .inside) in
-        let mate : look K s n (look K s n r .partner) ≡ K .rowAt s (K .rowAt s r .partner) = ap (λ (e : Event P). look K s n (e .partner)) here ∙ look-in K s n (K .rowAt s r .partner) (x .partner) in
-        record {
-          paired = record { own = x .inside; other = rw (ap (λ (e : Event P). e .partner) here) (x .partner); back = ap (λ (e : Event P). e .partner) mate ∙ x .paired };
-          side = ap₂ (λ (e f : Event P). onSide C (key e (f .point))) here mate ∙ x .ordered;
-          fit = ap (λ (e : Event P). C .fit (e .point)) here ∙ x .fit;
-        }
+module _ {P S : Type 0} (C : Coordinates P) (K : Store P S) (s : S) (n : ℕ) where
+  sound-checked : (r : ℕ) → Checked.Sound C (K .rowAt s) n r → Sound C (look K s n) n r
+  unfolding inOrder onSide keyOf key
+  sound-checked r x =
+      let here = look-in K s n r (x .inside) in
+      let mate : look K s n (look K s n r .partner) ≡ K .rowAt s (K .rowAt s r .partner) = ap (λ (e : Event P). look K s n (e .partner)) here ∙ look-in K s n (K .rowAt s r .partner) (x .partner) in
+      record {
+        paired = record { own = x .inside; other = rw (ap (λ (e : Event P). e .partner) here) (x .partner); back = ap (λ (e : Event P). e .partner) mate ∙ x .paired };
+        side = ap₂ (λ (e f : Event P). onSide C (key e (f .point))) here mate ∙ x .ordered;
+        fit = ap (λ (e : Event P). C .fit (e .point)) here ∙ x .fit;
+      }
 
-    pub good-checked : n ≤ K .size s → ((r : ℕ) → r < n → Checked.Sound C (K .rowAt s) n r) → Good C K s n
-    good-checked room h = record { fits = room; sound = λ r l. sound-checked r (h r l) }
+  pub good-checked : n ≤ K .size s → ((r : ℕ) → r < n → Checked.Sound C (K .rowAt s) n r) → Good C K s n
+  good-checked room h = record { fits = room; sound = λ r l. sound-checked r (h r l) }
 
--- ---- a record stored over one alike
+-- ---- a record stored over one with its face
 
 module _ {P : Type 0} (C : Coordinates P) {row row' : ℕ → Event P} (f : (j : ℕ) → Face (row' j) (row j)) where
   pub key-alike : (r : ℕ) → keyOf row' r ≡ keyOf row r

@@ -21,7 +21,6 @@ use Rattle.division.proofs.Outcomes.{passed, used-after}
 use Rattle.division.proofs.Sides.{MoveLaws}
 use Rattle.division.proofs.Whole.{Whole, whole}
 use Rattle.neighbours.proofs.Kept.{Invariant, Crossed, Puts, Kept, coincides-put}
-use Rattle.sweep.specs.State.{State}
 use Rattle.sweep.specs.Run.{subdivide}
 use Rattle.sweep.specs.Lined.{Sound, Good}
 use Rattle.sweep.proofs.Kept.{kept-sweep}

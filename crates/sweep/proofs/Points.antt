@@ -9,7 +9,6 @@ use Rattle.class.specs.declared.Operation.{Operation}
 use Rattle.division.specs.Division.{newEnd, linked}
 use Rattle.division.proofs.Sides.{MoveLaws}
 use Rattle.neighbours.proofs.Kept.{Crossed}
-use Rattle.sweep.specs.State.{State}
 use Rattle.sweep.specs.Run.{subdivide}
 use Rattle.sweep.specs.Lined.{Good}
 use Rattle.sweep.proofs.Inherited.{Inherited, stays}

@@ -20,7 +20,7 @@ use Rattle.checks.specs.Numbers.{numbersFrom}
 use Rattle.checks.proofs.Told.{either-refused}
 use Rattle.checks.proofs.Passed.{checked-refused}
 use Rattle.division.specs.declared.Division.the-variants.{Refused as NotDivided}
-use Rattle.division.specs.Division.{moved, moves, After, divideAt, divide, refused, done, misses, full}
+use Rattle.division.specs.Division.{moved, moves, divideAt, divide, refused, done, misses, full}
 use Rattle.neighbours.proofs.Likeness.{crossingOf}
 use Rattle.neighbours.proofs.Kept.{Invariant, Kept, crossed-any}
 use Rattle.sweep.specs.declared.Outcome.the-variants.{Refused}

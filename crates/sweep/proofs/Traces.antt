@@ -6,7 +6,6 @@ use Rattle.events.proofs.Stored.{Stored}
 use Rattle.class.specs.declared.Operation.{Operation}
 use Rattle.neighbours.proofs.Kept.{storeAlone}
 use Rattle.neighbours.proofs.Trace.{Trace, begun, trace-kept}
-use Rattle.sweep.specs.State.{State}
 use Rattle.sweep.specs.Run.{subdivide}
 use Rattle.sweep.proofs.Kept.{kept-sweep}
 

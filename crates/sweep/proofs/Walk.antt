@@ -5,7 +5,6 @@ use mathlib.Core.List.{List}
 use Prim.Native.Nat.{ℕ, zero, suc, _-_}
 use lib.ListN.{length, set}
 use lib.Dec.{eqb, ltb}
-use Rattle.events.specs.declared.Link.{Link}
 use Rattle.events.specs.declared.Link.the-variants.{None, To}
 use Rattle.lists.specs.Lists.{slot}
 use Rattle.events.specs.Coordinates.{Coordinates, Crossing}
@@ -15,15 +14,15 @@ use Rattle.order.specs.Keys.{keyOf, keyUsed}
 use Rattle.class.specs.declared.Operation.{Operation}
 use Rattle.neighbours.proofs.Likeness.{Likeness, StoresAlike, NumbersAlike}
 use Rattle.neighbours.proofs.Keyed.{Keyed}
-use Rattle.sweep_events.specs.Event.{classified, isBelow}
-use Rattle.sweep_events.proofs.Walk.{LinksAlike, EventLaws, alike-closeUp, alike-between}
-use Rattle.sweep_events.proofs.Adapters.{keyed-events}
+use Rattle.sweep_events.specs.Event.{isBelow}
+use Rattle.sweep_events.proofs.Walk.{EventLaws, alike-closeUp, alike-between}
+use Rattle.sweep_events.proofs.Adapters.{ClassesAlike, keyed-events}
 use Rattle.sweep.specs.declared.turn.Stop.{Stop}
 use Rattle.sweep.specs.declared.turn.Stop.the-variants.{Going}
 use Rattle.sweep.specs.State.{State, halt, ranked, takes, goOn}
 use Rattle.sweep.specs.Event.{enter, leaveAt, leave, turn}
 use Rattle.sweep.specs.Run.{next, isTied, stepBy, step, run}
-use Rattle.sweep.proofs.Abreast.{ListsAlike, empty, joined, lists-long, lists-member, lists-below, lists-append, lists-insert, lists-remove, lists-slot, going, ended, refused, Abreast, on, StatesAlike, together, gone, states-cond, abreast-ranked, states-meet, states-ranked}
+use Rattle.sweep.proofs.Abreast.{empty, joined, lists-long, lists-member, lists-below, lists-append, lists-insert, lists-remove, lists-slot, going, ended, refused, Abreast, on, StatesAlike, together, gone, states-cond, abreast-ranked, states-meet, states-ranked}
 
 -- ---- what is asked
 
@@ -39,19 +38,6 @@ pub record TurnLaws {P S P′ S′ : Type 0} (B : Likeness P S P′ S′) (op : 
   pub lefts : {n : ℕ} {s : S} {s′ : S′} {e e′ : ℕ} → StoresAlike B n s s′ → NumbersAlike B n e e′ → look K′ s′ n e′ .left ≡ look K s n e .left
   pub lates : {n : ℕ} {s : S} {s′ : S′} {e e′ : ℕ} → StoresAlike B n s s′ → NumbersAlike B n e e′ → past′ (look K′ s′ n e′ .point) ≡ past (look K s n e .point)
   pub mates : {n : ℕ} {s : S} {s′ : S′} {e e′ x x′ : ℕ} → StoresAlike B n s s′ → NumbersAlike B n e e′ → NumbersAlike B n x x′ → eqb x′ (look K′ s′ n e′ .partner) ≡ eqb x (look K s n e .partner)
-
--- .. where both show the orders the same
-pub keyed-turns : {P S S′ : Type 0} {B : Likeness P S P S′} {C : Coordinates P} {K : Store P S} {K′ : Store P S′} (k : Keyed B C K K′) (crossing : Crossing P) (op op′ : Operation) (past : P → Bool)
-    → ((n : ℕ) (s : S) (s′ : S′) (e e′ : ℕ) (lower lower′ : Link) → StoresAlike B n s s′ → NumbersAlike B n e e′ → LinksAlike B n lower lower′
-    → StoresAlike B n (classified C K op s n e lower) (classified C K′ op′ s′ n e′ lower′)) → TurnLaws B op C K crossing past op′ C K′ crossing past
-unfolding keyUsed keyOf key
-keyed-turns {P = P} k crossing op op′ past classes =
-    record {
-      events = keyed-events k crossing op op′ classes;
-      lefts = λ w h. ap (λ (x : Key P). x .left) (k .keys w h);
-      lates = λ w h. ap (λ (x : Key P). past (x .point)) (k .keys w h);
-      mates = λ w h l. k .one-number w l (k .mates w h);
-    }
 
 -- .. and what a run asks, while `Calm` holds of the first with so many steps to go
 pub record RunLaws {P S P′ S′ : Type 0} (B : Likeness P S P′ S′) (F : List Bool → List Bool → Type 0) (op : Operation) (C : Coordinates P) (K : Store P S) (crossing : Crossing P) (past : P → Bool)
@@ -116,3 +102,16 @@ module _ {P S P′ S′ : Type 0} {B : Likeness P S P′ S′} {F : List Bool �
       alike-run k _ _ (R .calm refl c) (alike-step here (R .nexts here refl c))
   alike-run (suc k) z z′ c (together (on b v f h g ended)) = together (on b v f h g ended)
   alike-run (suc k) z z′ c (together (on b v f h g (refused t))) = together (on b v f h g (refused t))
+
+-- ---- what one event asks, where the keys are equal
+
+pub keyed-turns : {P S S′ : Type 0} {B : Likeness P S P S′} {C : Coordinates P} {K : Store P S} {K′ : Store P S′} (k : Keyed B C K K′) (crossing : Crossing P) (op op′ : Operation) (past : P → Bool)
+    → ClassesAlike B C K op K′ op′ → TurnLaws B op C K crossing past op′ C K′ crossing past
+unfolding keyUsed keyOf key
+keyed-turns {P = P} k crossing op op′ past classes =
+    record {
+      events = keyed-events k crossing op op′ classes;
+      lefts = λ w h. ap (λ (x : Key P). x .left) (k .keys w h);
+      lates = λ w h. ap (λ (x : Key P). past (x .point)) (k .keys w h);
+      mates = λ w h l. k .one-number w l (k .mates w h);
+    }

@@ -22,9 +22,14 @@ use Rattle.sweep_events.proofs.Walk.{LinksAlike, nowhere, leads, EventL
 
 -- ---- two stores whose records have equal keys
 
-pub keyed-events : {P S S′ : Type 0} {B : Likeness P S P S′} {C : Coordinates P} {K : Store P S} {K′ : Store P S′} (k : Keyed B C K K′) (crossing : Crossing P) (op op′ : Operation)
-    → ((n : ℕ) (s : S) (s′ : S′) (e e′ : ℕ) (lower lower′ : Link) → StoresAlike B n s s′ → NumbersAlike B n e e′ → LinksAlike B n lower lower′
-    → StoresAlike B n (classified C K op s n e lower) (classified C K′ op′ s′ n e′ lower′)) → EventLaws B op C K crossing op′ C K′ crossing
+-- class reads more than keys
+abbrev pub ClassesAlike : {P S S′ : Type 0} → Likeness P S P S′ → Coordinates P → Store P S → Operation → Store P S′ → Operation → Type 0
+ClassesAlike {P} {S} {S′} B C K op K′ op′ =
+    (n : ℕ) (s : S) (s′ : S′) (e e′ : ℕ) (lower lower′ : Link) → StoresAlike B n s s′ → NumbersAlike B n e e′ → LinksAlike B n lower lower′
+    → StoresAlike B n (classified C K op s n e lower) (classified C K′ op′ s′ n e′ lower′)
+
+pub keyed-events : {P S S′ : Type 0} {B : Likeness P S P S′} {C : Coordinates P} {K : Store P S} {K′ : Store P S′} (k : Keyed B C K K′) (crossing : Crossing P) (op op′ : Operation) → ClassesAlike B C K op K′ op′
+    → EventLaws B op C K crossing op′ C K′ crossing
 unfolding isBelow
 keyed-events {C = C} k crossing op op′ classes =
     record {

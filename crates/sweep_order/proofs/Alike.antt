@@ -5,7 +5,6 @@ use mathlib.Core.Bool.{Bool, true, false, not, cond, _||_}
 use Prim.Native.Nat.{ℕ, _+_, _<_, min}
 use native.Mathlib.Omega.{arith}
 use lib.Dec.{eqb, leb}
-use Rattle.refusals.specs.declared.Refusal.{Refusal}
 use Rattle.events.specs.declared.EdgeType.{EdgeType}
 use Rattle.events.specs.declared.EdgeType.the-variants.{NonContributing}
 use Rattle.events.specs.declared.Link.{Link}
@@ -158,8 +157,8 @@ module _ {P S : Type 0} (C : Coordinates P) {K : Store P S} (st : Stored K) {n :
         mates = λ w h. record { alike = mate-alike (w .alike) (h .alike) };
         one-number = λ {a = a} {b = b} w h l. ap₂ eqb (to-is (h .alike)) (to-is (l .alike)) ∙ eqb-to ρ a b;
         fresh = λ w l. record { alike = fresh-to (w .alike) };
-        spot = λ e. record { alike = any e };
-        spot-is = λ q. is (q .alike);
+        points = λ e. record { alike = any e };
+        points-are = λ q. is (q .alike);
         told = λ h. told (h .alike);
         cuts = λ w h e. cut-alike (w .alike) (h .alike) (any e);
         coincides = λ {a = a} {b = b} w h l. record { alike = rw (to-is (h .alike), to-is (l .alike)) (twin-coincided (w .alike) a b) };

@@ -1,16 +1,13 @@
 -- Two runs from states that are one but for names stay so, step by step, where no waiting event tied with one taken: the one taken is then strictly
 -- before every other that waits, in both.
-use mathlib.Core.Path.{_≡_, refl, sym, ap, ap₂, _∙_, subst}
-use mathlib.Core.Bool.{Bool, true, false, cond}
-use mathlib.Core.List.{List, map}
-use Prim.Native.Nat.{ℕ, zero, suc, _<_}
+use mathlib.Core.Path.{_≡_, refl, sym, ap, _∙_, subst}
+use mathlib.Core.Bool.{Bool, true, false}
+use mathlib.Core.List.{List}
+use Prim.Native.Nat.{ℕ, suc, _<_}
 use lib.ListN.{set}
-use lib.Dec.{eqb}
-use Rattle.refusals.specs.declared.Refusal.{Refusal}
 use Rattle.events.specs.declared.Link.{Link}
 use Rattle.events.specs.declared.Link.the-variants.{None, To}
 use Rattle.events.specs.Coordinates.{Coordinates, Crossing}
-use Rattle.events.specs.Event.{Event}
 use Rattle.events.specs.Renaming.{rename}
 use Rattle.events.specs.Store.{Store, look}
 use Rattle.events.proofs.Stored.{Stored}
@@ -22,11 +19,11 @@ use Rattle.division.proofs.Sides.{MoveLaws}
 use Rattle.neighbours.proofs.Likeness.{Likeness}
 use Rattle.neighbours.proofs.Kept.{Invariant, numbersInUse}
 use Rattle.neighbours.proofs.Both.{both, stores, numbers, store-known, number-known, numbers-both}
-use Rattle.waiting.specs.Waiting.{first, rivalled, flagged}
+use Rattle.waiting.specs.Waiting.{first, flagged}
 use Rattle.waiting.proofs.First.{found}
 use Rattle.sweep_events.proofs.Adapters.{events-both}
 use Rattle.sweep.specs.declared.turn.Stop.{Stop}
-use Rattle.sweep.specs.declared.turn.Stop.the-variants.{Going, Ended, Refused}
+use Rattle.sweep.specs.declared.turn.Stop.the-variants.{Going, Refused}
 use Rattle.sweep.specs.State.{State}
 use Rattle.sweep.specs.Run.{isBefore, next, isTied, stepBy, step, run}
 use Rattle.sweep.specs.Lined.{Good}
@@ -34,12 +31,12 @@ use Rattle.sweep.proofs.Flags.{down}
 use Rattle.sweep.proofs.Abreast.{lists-map, StopsAlike, going, ended, refused, Abreast, on, StatesAlike, together, gone}
 use Rattle.sweep.proofs.Walk.{NextAlike, over, takes-up, TurnLaws, RunLaws, onward, alike-run}
 use Rattle.sweep.proofs.Good.{sound, sound-kept, valid}
-use Rattle.sweep_order.specs.SameBut.{Renaming, renameRefusal, renameStop, SameBut}
+use Rattle.sweep_order.specs.SameBut.{Renaming, renameStop, SameBut}
 use Rattle.sweep_order.proofs.Renamings.{below-to, eqb-to}
 use Rattle.sweep_order.proofs.Told.{untied-at}
 use Rattle.sweep_order.proofs.Scan.{Strict, strict, none-to, first-to, unrivalled-to}
 use Rattle.sweep_order.proofs.Twins.{Twin, point-to, before-to}
-use Rattle.sweep_order.proofs.Alike.{Renamed, renamed, to-is, renames, turns-to}
+use Rattle.sweep_order.proofs.Alike.{renamed, to-is, renames, turns-to}
 
 -- what waits, under new names
 abbrev pub Flags : (ℕ → ℕ) → List Bool → List Bool → Type 0
@@ -68,7 +65,7 @@ module _ {P S : Type 0} {C : Coordinates P} {K : Store P S} (M : MoveLaws C) (st
   abbrev B : Likeness P S P S
   B = both A I
 
-  -- the other turn ends the run at the same events
+  -- where the early stop is the same for fit points
   sound-turns : TurnLaws B op C K crossing past op C K crossing past′
   unfolding renames sound numbersInUse
   sound-turns =

@@ -2,10 +2,9 @@
 -- many places there are. What a turn asks of two runs (`sweep`) is shown here law by law.
 use mathlib.Core.Path.{_≡_, refl, sym, ap, ap₂, _∙_}
 use mathlib.Core.Bool.{Bool, true, false, not, cond, _||_}
-use Prim.Native.Nat.{ℕ, suc, _+_, _<_, _≤_}
+use Prim.Native.Nat.{ℕ, _+_}
 use native.Mathlib.Omega.{arith}
 use lib.Dec.{eqb}
-use Rattle.refusals.specs.declared.Refusal.{Refusal}
 use Rattle.events.specs.declared.Link.{Link}
 use Rattle.events.specs.declared.Link.the-variants.{None, To}
 use Rattle.events.specs.Coordinates.{Coordinates, Crossing}
@@ -109,8 +108,8 @@ module _ {P S : Type 0} (C : Coordinates P) {K : Store P S} (st : Stored K) {n :
         mates = λ w h. record { alike = mate-alike (w .alike) (h .alike) };
         one-number = λ w h l. ap₂ eqb (is (h .alike)) (is (l .alike));
         fresh = λ w l. record { alike = same tt };
-        spot = λ e. record { alike = any e };
-        spot-is = λ q. is (q .alike);
+        points = λ e. record { alike = any e };
+        points-are = λ q. is (q .alike);
         told = λ h. any (ap (λ k. record { number = 7; place = k }) (is (h .alike)));
         cuts = λ w h e. cut-front (w .alike) (h .alike) (any e);
         coincides = λ w h l. record { alike = coincide-alike (w .alike) (h .alike) (l .alike) };

@@ -1,4 +1,4 @@
--- RunLaws in the front of a store: the same event is taken at each step, so that a run there leaves what the run in the whole leaves, or wants room.
+-- Runs in the front of a store: the same event is taken at each step, so that a run there leaves what the run in the whole leaves, or wants room.
 use mathlib.Core.Path.{_≡_, refl, sym, ap, ap₂, _∙_}
 use mathlib.Core.Logic.{_≢_}
 use mathlib.Core.Bool.{Bool, true, false}
