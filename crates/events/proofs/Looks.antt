@@ -1,5 +1,6 @@
 -- What is read of a store of which the first places are in use: in them, beyond them, and after storing a record.
 use mathlib.Core.Path.{_≡_, refl, ap, _∙_}
+use mathlib.Core.Logic.{_⊎_, inl, inr}
 use mathlib.Core.Bool.{Bool, true, false, cond, _&&_}
 use Prim.Native.Nat.{ℕ, _+_, _<_, _≤_}
 use native.Mathlib.Omega.{arith}
@@ -28,6 +29,13 @@ module _ {P S : Type 0} (K : Store P S) (s : S) (used r : ℕ) where
   pub look-out : used ≤ r → look K s used r ≡ K .blank r
   unfolding look
   look-out h = rw (le-ltb r used h)
+
+  pub used-or-blank : (r < used) ⊎ (look K s used r ≡ K .blank r)
+  used-or-blank = go (ltb r used) refl
+    where
+      go : (b : Bool) → ltb r used ≡ b → (r < used) ⊎ (look K s used r ≡ K .blank r)
+      go true e = inl (ltb-true r used e)
+      go false e = inr (look-out (ltb-false r used e))
 
 -- ---- after storing
 

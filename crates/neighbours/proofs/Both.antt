@@ -5,7 +5,8 @@ use Rattle.events.specs.Store.{Store}
 use Rattle.neighbours.specs.Step.{Step}
 use Rattle.neighbours.proofs.Likeness.{Likeness, StoresAlike, NumbersAlike, PointsAlike, StepsAlike, went, halted, out, CrossesAlike, apart, astray, across, along}
 use Rattle.neighbours.proofs.Walk.{MeetingLaws}
-use Rattle.neighbours.proofs.Kept.{Invariant, Crossed, Kept, known, diagonal, kept-cut}
+use Rattle.neighbours.proofs.Invariants.{Invariant, Crossed, Kept}
+use Rattle.neighbours.proofs.Kept.{known, diagonal, kept-cut}
 
 unfoldable pub both : {P S P′ S′ : Type 0} → Likeness P S P′ S′ → Invariant P S → Likeness P S P′ S′
 both B I =

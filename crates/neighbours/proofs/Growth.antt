@@ -1,4 +1,4 @@
--- Nothing takes places into use but divisions, two each, and no more than there are; no store changes the size. An invariant of the walk (`Kept`).
+-- Nothing takes places into use but divisions, two each, and no more than there are; no store changes the size. An invariant of the walk (`Invariants`).
 use mathlib.Core.Path.{_≡_, refl, _∙_}
 use Prim.Native.Nat.{ℕ, _+_, _*_, _≤_}
 use native.Mathlib.Omega.{arith}
@@ -6,7 +6,7 @@ use Rattle.events.specs.Coordinates.{Coordinates, Crossing}
 use Rattle.events.specs.Store.{Store}
 use Rattle.events.proofs.Stored.{Stored}
 use Rattle.division.proofs.Outcomes.{passed, used-after, same-size}
-use Rattle.neighbours.proofs.Kept.{Kept, storeAlone, any-kept}
+use Rattle.neighbours.proofs.Invariants.{Kept, storeAlone, any-kept}
 
 -- from a store with n places in use to one with n'
 pub record Grows {P S : Type 0} (K : Store P S) (s : S) (n : ℕ) (s' : S) (n' : ℕ) : Type 0 where

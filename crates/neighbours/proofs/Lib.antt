@@ -4,6 +4,7 @@ pub mod Overlaps
 pub mod Meetings
 pub mod Likeness
 pub mod Walk
+pub mod Invariants
 pub mod Kept
 pub mod Keyed
 pub mod Both

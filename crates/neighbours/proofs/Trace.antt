@@ -1,4 +1,4 @@
--- What was stored on the way, one after the other: records over ones with their faces, and divisions. A trace is an invariant like any other (`Kept`), so
+-- What was stored on the way, one after the other: records over ones with their faces, and divisions. A trace is an invariant like any other (`Invariants`), so
 -- that every run has one, and what is to be shown of runs can be shown of traces. The run's divisions are those of its trace.
 use mathlib.Core.Path.{_≡_}
 use Prim.Native.Nat.{ℕ, suc, _+_, _*_, _≤_}
@@ -12,7 +12,7 @@ use Rattle.division.specs.declared.Division.the-variants.{Done}
 use Rattle.division.specs.declared.Divided.{Divided}
 use Rattle.division.specs.Division.{divide}
 use Rattle.division.proofs.Outcomes.{passed, used-after, same-size}
-use Rattle.neighbours.proofs.Kept.{storeAlone, Kept, store-kept}
+use Rattle.neighbours.proofs.Invariants.{storeAlone, Kept, store-kept}
 
 -- from the store `first`, with `from` places in use, to a store with so many in use
 pub data Trace {P S : Type 0} (C : Coordinates P) (K : Store P S) (first : S) (from : ℕ) : ℕ → S → Type 0 where

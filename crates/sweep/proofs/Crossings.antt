@@ -9,7 +9,7 @@ use Rattle.events.proofs.Stored.{Stored}
 use Rattle.events.proofs.Looks.{Blanks}
 use Rattle.class.specs.declared.Operation.{Operation}
 use Rattle.division.proofs.Sides.{MoveLaws}
-use Rattle.neighbours.proofs.Kept.{numbersInUse, Agrees}
+use Rattle.neighbours.proofs.Invariants.{numbersInUse, Agrees}
 use Rattle.sweep.specs.Bounds.{past}
 use Rattle.sweep.specs.Run.{subdivide}
 use Rattle.sweep.specs.Lined.{Good}

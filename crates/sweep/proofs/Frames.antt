@@ -18,7 +18,7 @@ use Rattle.division.specs.Division.{linked, divide}
 use Rattle.division.proofs.Outcomes.{passed, used-after}
 use Rattle.division.proofs.Sides.{MoveLaws}
 use Rattle.division.proofs.Whole.{Whole, whole}
-use Rattle.neighbours.proofs.Kept.{Kept, storeAlone, store-kept}
+use Rattle.neighbours.proofs.Invariants.{Kept, storeAlone, store-kept}
 use Rattle.sweep.specs.Lined.{Sound, Good}
 use Rattle.sweep.proofs.Good.{key-alike, good-put, good-divided, left-in-use, segment, key-beside}
 

@@ -1,16 +1,15 @@
 -- Partners stay mutual and on their proper sides, and points fit, through the whole run; so event order is total and transitive on what waits.
 use mathlib.Core.Path.{_≡_, refl, sym, ap, ap₂, _∙_, subst}
-use mathlib.Core.Logic.{_≢_}
-use mathlib.Core.Bool.{Bool, true, false, cond, true≢false}
+use mathlib.Core.Logic.{_≢_, ⊎-elim}
+use mathlib.Core.Bool.{Bool, true, false, true≢false}
 use Prim.Native.Nat.{ℕ, _+_, _<_, _≤_}
 use native.Mathlib.Omega.{arith}
-use lib.Dec.{ltb}
-use borrow.Author.Tests.{ltb-true, not-false}
+use borrow.Author.Tests.{not-false}
 use Rattle.events.specs.Coordinates.{Coordinates, same, ahead, Crossing}
 use Rattle.events.specs.Event.{Event, key}
 use Rattle.events.specs.Store.{Store, look}
 use Rattle.events.proofs.Stored.{Stored}
-use Rattle.events.proofs.Looks.{Blanks, look-in}
+use Rattle.events.proofs.Looks.{Blanks, look-in, used-or-blank}
 use Rattle.events.proofs.Faces.{Face, face-store}
 use Rattle.order.specs.Order.{onSide}
 use Rattle.order.specs.Keys.{keyOf, keyUsed}
@@ -25,7 +24,7 @@ use Rattle.division.proofs.Pairs.{aside}
 use Rattle.division.proofs.Outcomes.{same-size, passed, used-after}
 use Rattle.division.proofs.Sides.{MoveLaws}
 use Rattle.division.proofs.Whole.{Segment, Whole, whole}
-use Rattle.neighbours.proofs.Kept.{Invariant, numbersInUse, Kept, used-kept}
+use Rattle.neighbours.proofs.Invariants.{Invariant, numbersInUse, Kept, used-kept}
 use Rattle.checks.proofs.Unstruck.{neither}
 use Rattle.sweep.specs.Lined.{Sound, Good}
 
@@ -73,12 +72,7 @@ module _ {P S : Type 0} {C : Coordinates P} {K : Store P S} (M : MoveLaws C) (st
   -- ---- a division
 
   pub left-in-use : (s : S) (used i : ℕ) → look K s used i .left ≡ true → i < used
-  unfolding look
-  left-in-use s used i h = go (ltb i used) refl h
-    where
-      go : (b : Bool) → ltb i used ≡ b → cond b (K .rowAt s i) (K .blank i) .left ≡ true → i < used
-      go true e k = ltb-true i used e
-      go false e k = absurd (true≢false (sym k ∙ bl .right i))
+  left-in-use s used i h = ⊎-elim (λ l. l) (λ e. absurd (true≢false (sym h ∙ ap (λ (x : Event P). x .left) e ∙ bl .right i))) (used-or-blank K s used i)
 
   module _ (s : S) (used : ℕ) (g : Good C K s used) where
     abbrev row : ℕ → Event P

@@ -1,15 +1,14 @@
 -- What every end and its partner have in common stays so through the whole sweep, if the two halves of a divided edge inherit it.
 use mathlib.Core.Path.{_≡_, refl, sym, ap, _∙_, subst}
+use mathlib.Core.Logic.{⊎-elim}
 use mathlib.Core.Bool.{Bool, true, false, cond}
 use Prim.Native.Nat.{ℕ, _+_, _<_}
 use native.Mathlib.Omega.{arith}
-use lib.Dec.{ltb}
-use borrow.Author.Tests.{ltb-true}
 use Rattle.events.specs.Coordinates.{Coordinates, Crossing}
 use Rattle.events.specs.Event.{Event}
 use Rattle.events.specs.Store.{Store, look}
 use Rattle.events.proofs.Stored.{Stored}
-use Rattle.events.proofs.Looks.{Blanks}
+use Rattle.events.proofs.Looks.{Blanks, used-or-blank}
 use Rattle.events.proofs.Faces.{Face, face-store}
 use Rattle.class.specs.declared.Operation.{Operation}
 use Rattle.division.specs.declared.Division.the-variants.{Done}
@@ -20,7 +19,7 @@ use Rattle.division.proofs.Pairs.{aside}
 use Rattle.division.proofs.Outcomes.{passed, used-after}
 use Rattle.division.proofs.Sides.{MoveLaws}
 use Rattle.division.proofs.Whole.{Whole, whole}
-use Rattle.neighbours.proofs.Kept.{Invariant, Crossed, Puts, Kept, coincides-put}
+use Rattle.neighbours.proofs.Invariants.{Invariant, Crossed, Puts, Kept, coincides-put}
 use Rattle.sweep.specs.Run.{subdivide}
 use Rattle.sweep.specs.Lined.{Sound, Good}
 use Rattle.sweep.proofs.Kept.{kept-sweep}
@@ -57,12 +56,7 @@ module _ {P S : Type 0} {C : Coordinates P} {K : Store P S} {crossing : Crossing
   -- ---- points
 
   read : (n : ℕ) (s : S) (r : ℕ) → Inherits n s → Q (look K s n r .point)
-  unfolding look
-  read n s r g = go (ltb r n) refl
-    where
-      go : (b : Bool) → ltb r n ≡ b → Q (look K s n r .point)
-      go true e = h .point _ _ (g .each r (ltb-true r n e))
-      go false e = rw e (h .nowhere r)
+  read n s r g = ⊎-elim (λ l. h .point _ _ (g .each r l)) (λ e. subst (λ (x : Event P). Q (x .point)) (sym e) (h .nowhere r)) (used-or-blank K s n r)
 
   moved-too : (l p : P) → Q p → Q (moved C l p)
   unfolding moved

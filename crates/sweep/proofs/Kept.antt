@@ -11,7 +11,8 @@ use Rattle.events.specs.declared.Link.the-variants.{None, To}
 use Rattle.events.specs.Coordinates.{Coordinates, Crossing}
 use Rattle.events.specs.Store.{Store, look}
 use Rattle.class.specs.declared.Operation.{Operation}
-use Rattle.neighbours.proofs.Kept.{Invariant, Kept, Agrees, storeAlone, same, is, known, diagonal}
+use Rattle.neighbours.proofs.Invariants.{Invariant, Kept, Agrees, storeAlone}
+use Rattle.neighbours.proofs.Kept.{same, is, known, diagonal}
 use Rattle.waiting.specs.Waiting.{flagged}
 use Rattle.waiting.proofs.First.{found}
 use Rattle.sweep_events.proofs.Adapters.{kept-events}

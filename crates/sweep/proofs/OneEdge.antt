@@ -4,7 +4,7 @@ use Rattle.events.specs.Coordinates.{Coordinates, Crossing}
 use Rattle.events.specs.Event.{Event}
 use Rattle.events.specs.Store.{Store}
 use Rattle.division.specs.Division.{newEnd, linked}
-use Rattle.neighbours.proofs.Kept.{crossed-any}
+use Rattle.neighbours.proofs.Invariants.{crossed-any}
 use Rattle.sweep.proofs.Inherited.{Inherited}
 
 pub record OneEdge {P : Type 0} (e f : Event P) : Type 0 where

@@ -8,7 +8,7 @@ use Rattle.events.proofs.Looks.{Blanks}
 use Rattle.class.specs.declared.Operation.{Operation}
 use Rattle.division.specs.Division.{newEnd, linked}
 use Rattle.division.proofs.Sides.{MoveLaws}
-use Rattle.neighbours.proofs.Kept.{Crossed}
+use Rattle.neighbours.proofs.Invariants.{Crossed}
 use Rattle.sweep.specs.Run.{subdivide}
 use Rattle.sweep.specs.Lined.{Good}
 use Rattle.sweep.proofs.Inherited.{Inherited, stays}

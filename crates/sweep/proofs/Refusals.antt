@@ -22,7 +22,7 @@ use Rattle.checks.proofs.Passed.{checked-refused}
 use Rattle.division.specs.declared.Division.the-variants.{Refused as NotDivided}
 use Rattle.division.specs.Division.{moved, moves, divideAt, divide, refused, done, misses, full}
 use Rattle.neighbours.proofs.Likeness.{crossingOf}
-use Rattle.neighbours.proofs.Kept.{Invariant, Kept, crossed-any}
+use Rattle.neighbours.proofs.Invariants.{Invariant, Kept, crossed-any}
 use Rattle.sweep.specs.declared.Outcome.the-variants.{Refused}
 use Rattle.sweep.specs.declared.turn.Stop.{Stop}
 use Rattle.sweep.specs.declared.turn.Stop.the-variants as Stops

@@ -4,7 +4,7 @@ use Rattle.events.specs.Coordinates.{Coordinates, Crossing}
 use Rattle.events.specs.Store.{Store}
 use Rattle.events.proofs.Stored.{Stored}
 use Rattle.class.specs.declared.Operation.{Operation}
-use Rattle.neighbours.proofs.Kept.{storeAlone}
+use Rattle.neighbours.proofs.Invariants.{storeAlone}
 use Rattle.neighbours.proofs.Trace.{Trace, begun, trace-kept}
 use Rattle.sweep.specs.Run.{subdivide}
 use Rattle.sweep.proofs.Kept.{kept-sweep}

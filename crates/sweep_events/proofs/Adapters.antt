@@ -16,7 +16,8 @@ use Rattle.class.specs.Class.{Lower, None as NoEdge, Edge, written, setFromLowe
 use Rattle.neighbours.proofs.Likeness.{Likeness, StoresAlike, NumbersAlike}
 use Rattle.neighbours.proofs.Keyed.{Keyed, keyed-meetings}
 use Rattle.neighbours.proofs.Both.{both, stores, numbers, store-known, number-known, stores-both, meetings-both}
-use Rattle.neighbours.proofs.Kept.{Invariant, Kept, Agrees, Same, same, is, diagonal, kept-meetings}
+use Rattle.neighbours.proofs.Invariants.{Invariant, Kept, Agrees}
+use Rattle.neighbours.proofs.Kept.{Same, same, is, diagonal, kept-meetings}
 use Rattle.sweep_events.specs.Event.{isLess, lowerIn, classified, isBelow}
 use Rattle.sweep_events.proofs.Walk.{LinksAlike, nowhere, leads, EventLaws}
 

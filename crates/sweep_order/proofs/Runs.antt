@@ -17,7 +17,7 @@ use Rattle.order.proofs.Laws.{otherwise, trans}
 use Rattle.class.specs.declared.Operation.{Operation}
 use Rattle.division.proofs.Sides.{MoveLaws}
 use Rattle.neighbours.proofs.Likeness.{Likeness}
-use Rattle.neighbours.proofs.Kept.{Invariant, numbersInUse}
+use Rattle.neighbours.proofs.Invariants.{Invariant, numbersInUse}
 use Rattle.neighbours.proofs.Both.{both, stores, numbers, store-known, number-known, numbers-both}
 use Rattle.waiting.specs.Waiting.{first, flagged}
 use Rattle.waiting.proofs.First.{found}

@@ -23,7 +23,7 @@ use Rattle.loading.proofs.Rows.{rows, size-loaded}
 use Rattle.loading.proofs.AsLoaded.{sounds}
 use Rattle.sweep.specs.State.{start}
 use Rattle.sweep.specs.Lined.{Good}
-use Rattle.neighbours.proofs.Kept.{numbersInUse}
+use Rattle.neighbours.proofs.Invariants.{numbersInUse}
 use Rattle.neighbours.proofs.Both.{both}
 use Rattle.sweep.proofs.Abreast.{empty, going, Abreast, on}
 use Rattle.sweep.proofs.Flags.{all-flagged}

@@ -17,7 +17,7 @@ use Rattle.division.specs.declared.Divided.{Divided}
 use Rattle.division.specs.Division.{moved, After, parted, done, divide}
 use Rattle.division.proofs.Outcomes.{passed}
 use Rattle.division.proofs.Sides.{MoveLaws}
-use Rattle.neighbours.proofs.Kept.{numbersInUse, Kept, used-kept}
+use Rattle.neighbours.proofs.Invariants.{numbersInUse, Kept, used-kept}
 use Rattle.sweep.specs.Bounds.{past}
 use Rattle.sweep.specs.Lined.{Good}
 use Rattle.sweep.proofs.Kept.{keeping-start, kept-run}
