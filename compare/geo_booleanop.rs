@@ -1,6 +1,7 @@
 //! The published source of geo-booleanop 0.3.2, unchanged, as a crate. `GEO_BOOLEANOP` names the
 //! folder that holds it. `lib.rs` and `splay/mod.rs` only declare modules and are not published
-//! there: this file stands for both, and hands on the functions that the crate keeps private.
+//! there: this file stands for both, and hands on the functions that the crate keeps private. It is built a
+//! second time, over links to the same files and `ordered.rs` in the place of one of them.
 #![allow(dead_code, deprecated, unused_imports)]
 
 pub mod boolean {

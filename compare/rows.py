@@ -16,8 +16,14 @@ STAND_IN = {
     "neigh": "float_next_after",
     "nextup": "float_next_after",
 }
+ORDERED = "ordered-"
 SHOWN = 5
 LIMIT = 2.0**100
+
+
+def plain_twin(function):
+    """The function whose words and kinds of answer these are."""
+    return function.removeprefix(ORDERED)
 
 
 def number(word):
@@ -44,6 +50,7 @@ def is_refused(left, right, cut):
 
 def must_refuse(function, call, rust):
     """Whether the rules refuse a call that the Rust answers."""
+    function = plain_twin(function)
     if function == "divide":
         lx, ly, rx, ry = map(number, call.split()[1:5])
         _, x, y = rust.split()[:3]
@@ -69,6 +76,7 @@ def is_moved(left, cut):
 def kind(function, call, answer):
     """What sort of answer this is, for the counts."""
     words = answer.split()
+    function = plain_twin(function)
     if function in ("cross", "orient", "segcmp"):
         return words[0]
     if function == "class":
@@ -121,7 +129,8 @@ class Row:
 
     def text(self, function):
         counts = lambda counter: ", ".join(f"{name}: {n}" for name, n in sorted(counter.items())) or "-"
-        rests = f"stand-in {STAND_IN[function]}" if function in STAND_IN else "-"
+        twin = plain_twin(function)
+        rests = f"stand-in {STAND_IN[twin]}" if twin in STAND_IN else "-"
         cells = [function, self.compared, self.differing, counts(self.refused), counts(self.skipped)]
         return "| " + " | ".join(map(str, cells + [counts(self.kinds), rests])) + " |"
 

@@ -37,6 +37,11 @@ CASES = [
     ([f"{DIVIDE} {TWO} {ONE} 1 0"], [AT_END], [AT_END], False),
     (["neigh"], [OVERLAP], [OVERLAP], True),
     (["neigh"], [OVERLAP], ["refused 7 at 0"], False),
+    ([f"ordered-{CROSS}"], [f"point {ONE} {ONE}"], [f"point {ONE} {ONE}"], True),
+    ([f"ordered-{CROSS}"], [f"point {ONE} {ONE}"], [f"point {ONE} {ONE[:-1]}1"], False),
+    ([f"ordered-{CROSS}"], ["lost"], ["refused 7 at 0"], False),
+    (["ordered-neigh", "ordered-neigh"], [OVERLAP, "lost"], [OVERLAP, "refused 7 at 0"], True),
+    (["ordered-neigh"], ["lost"], ["lost"], False),
     ([], [], [], False),
 ]
 

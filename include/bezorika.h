@@ -1,4 +1,4 @@
-/* Bezorika's C entries: two calls on numbers (libentries.a, `rt staticlib
+/* Bezorika's C entries: three calls on numbers (libentries.a, `rt staticlib
    entries`), the stages one by one, and a sheet from bytes to bytes; the
    archives of these stand above each.
 
@@ -40,7 +40,8 @@ uint64_t bezorika_orientation(double ax, double ay, double bx, double by,
 enum { BEZORIKA_NONE = 0, BEZORIKA_POINT = 1, BEZORIKA_OVERLAP = 2, BEZORIKA_LOST = 3 };
 
 /* The crossing of the segments (ax,ay)-(bx,by) and (cx,cy)-(dx,dy), computed
-   in binary64 as geo-booleanop 0.3.2 does.
+   in binary64 as geo-booleanop 0.3.2 does: the plain mode. Its last digits may
+   depend on which segment is named first and which way each runs.
 
    Returns 0: *kind is
        0   none: the segments have nothing in common
@@ -52,6 +53,20 @@ enum { BEZORIKA_NONE = 0, BEZORIKA_POINT = 1, BEZORIKA_OVERLAP = 2, BEZORIKA_LOS
 uint64_t bezorika_crossing(double ax, double ay, double bx, double by,
                            double cx, double cy, double dx, double dy,
                            uint64_t *kind, double corners[4], uint64_t *place);
+
+/* The same in the ordered mode: minus zero becomes zero, each segment's ends
+   are put in order of x then y, then the two segments in order of first end,
+   then of second end, and only then it is computed. The answer is the same to
+   the last bit, lost included, whichever segment is named first, whichever way
+   each runs and whichever sign a zero has (proved: `keeps-answers`).
+
+   Returns 2: *place is 0 to 7, as the numbers were named here. */
+uint64_t bezorika_crossing_ordered(double ax, double ay, double bx, double by,
+                                   double cx, double cy, double dx, double dy,
+                                   uint64_t *kind, double corners[4], uint64_t *place);
+
+/* The modes of crossing. Every number but 0 means the ordered one. */
+enum { BEZORIKA_PLAIN = 0, BEZORIKA_ORDERED = 1 };
 
 /* ---- The stages one by one (libstages.a, `rt staticlib stages`)
 
@@ -74,11 +89,12 @@ uint64_t bezorika_load(const double (*ends)[4], size_t ends_length,
                        uint32_t (*marks)[12], size_t marks_length,
                        uint32_t *used, uint64_t *place);
 
-/* The operations. */
+/* The operations. Every number above 3 means xor. */
 enum { BEZORIKA_INTERSECTION = 0, BEZORIKA_DIFFERENCE = 1, BEZORIKA_UNION = 2, BEZORIKA_XOR = 3 };
 
-/* The sweep of the first `loaded` records. taken has as many places as the pool,
-   and begins with the records taken, in their order. counts: events taken,
+/* The sweep of the first `loaded` records, with crossings, in segment order
+   too, in a mode; bezorika_overlay takes the ordered one. taken has as many
+   places as the pool, and begins with the records taken, in their order. counts: events taken,
    divisions made, records in use, and 1 if at some taking another waiting event
    tied with the one taken.
 
@@ -87,7 +103,7 @@ enum { BEZORIKA_INTERSECTION = 0, BEZORIKA_DIFFERENCE = 1, BEZORIKA_UNION = 2, B
    larger pool, so a small one may be tried first. */
 uint64_t bezorika_subdivide(double (*points)[2], size_t points_length,
                             uint32_t (*marks)[12], size_t marks_length,
-                            uint32_t loaded, uint32_t operation,
+                            uint32_t loaded, uint32_t operation, uint32_t mode,
                             uint32_t *taken, size_t taken_length,
                             uint32_t counts[4], uint64_t *place);
 
@@ -109,7 +125,7 @@ uint64_t bezorika_connect(const double (*points)[2], size_t points_length,
 /* ---- A sheet from bytes to bytes (liboverlay_entry.a, `rt staticlib overlay_entry`)
 
    Reads a sheet from bytes and prints the map's text into out, no byte past
-   out_length, whatever the bytes are.
+   out_length, whatever the bytes are. Crossings are in the ordered mode.
 
    Returns 0: the text is the first *length bytes of out.
    Returns the number of a refusal: its place is in *place and out is as lent.

@@ -1,4 +1,5 @@
-/* The C entries through the header and the archive: P1 to P9 of document 01, and numbers that are not finite in every place. */
+/* The C entries through the header and the archive: P1 to P9 of document 01 in both modes of crossing, one crossing under all its namings, and
+   numbers that are not finite in every place. */
 #include <bezorika.h>
 #include <math.h>
 #include <stdio.h>
@@ -41,27 +42,73 @@ static const struct crossing CROSSINGS[] = {
     {{-HUGE, 0, HUGE, 0, 0, -1, 0, 1}, BEZORIKA_LOST, 0, {0}},
 };
 
-static uint64_t cross(const double in[8], uint64_t *kind, double corners[4], uint64_t *place)
+typedef uint64_t entry(double, double, double, double, double, double, double, double, uint64_t *, double[4], uint64_t *);
+
+static uint64_t cross(entry *mode, const double in[8], uint64_t *kind, double corners[4], uint64_t *place)
 {
     *kind = LENT;
     *place = LENT;
     for (int i = 0; i < 4; i++)
         corners[i] = LENT_CORNER;
-    return bezorika_crossing(in[0], in[1], in[2], in[3], in[4], in[5], in[6], in[7], kind, corners, place);
+    return mode(in[0], in[1], in[2], in[3], in[4], in[5], in[6], in[7], kind, corners, place);
 }
 
-static void crossings(void)
+/* The numbers of case i, answered as case `as`. */
+static void crossing(entry *mode, int i, int as)
 {
+    const struct crossing *c = &CROSSINGS[as];
     uint64_t kind, place;
     double corners[4];
+    expect(cross(mode, CROSSINGS[i].in, &kind, corners, &place) == 0, "crossing answered", i + 1);
+    expect(kind == c->kind, "kind of crossing", i + 1);
+    expect(place == LENT, "place as lent", i + 1);
+    for (int k = 0; k < 4; k++)
+        expect(corners[k] == (k < c->written ? c->corners[k] : LENT_CORNER), "corner", i + 1);
+}
+
+/* Ordered, P4 changes its segments' places and is P5. */
+static void crossings(void)
+{
     for (int i = 0; i < 8; i++) {
-        const struct crossing *c = &CROSSINGS[i];
-        expect(cross(c->in, &kind, corners, &place) == 0, "crossing answered", i + 1);
-        expect(kind == c->kind, "kind of crossing", i + 1);
-        expect(place == LENT, "place as lent", i + 1);
-        for (int k = 0; k < 4; k++)
-            expect(corners[k] == (k < c->written ? c->corners[k] : LENT_CORNER), "corner", i + 1);
+        crossing(bezorika_crossing, i, i);
+        crossing(bezorika_crossing_ordered, i, i == 3 ? 4 : i);
     }
+}
+
+/* The eight namings of two segments, each with its zeros of one sign or the other. */
+static void named(const double in[8], int naming, double zero, double out[8])
+{
+    for (int i = 0; i < 8; i++) {
+        int segment = (i / 4) ^ (naming & 1), turned = naming >> (1 + segment) & 1;
+        double x = in[segment * 4 + ((i % 4) ^ (turned ? 2 : 0))];
+        out[i] = x == 0 ? zero : x;
+    }
+}
+
+static uint64_t bits(double x)
+{
+    uint64_t b;
+    memcpy(&b, &x, sizeof b);
+    return b;
+}
+
+/* (0,2)-(1,0) with (0,0)-(1,1): plain, y is a last digit apart when the segments change places; ordered, it never is. The bits are the Rust's. */
+static void namings(void)
+{
+    static const double in[8] = {0, 2, 1, 0, 0, 0, 1, 1};
+    const uint64_t third = 0x3fe5555555555555;
+    double out[8], corners[4];
+    uint64_t kind, place;
+    for (int naming = 0; naming < 16; naming++) {
+        named(in, naming & 7, naming & 8 ? -0.0 : 0.0, out);
+        expect(cross(bezorika_crossing_ordered, out, &kind, corners, &place) == 0 && kind == BEZORIKA_POINT, "ordered crossing", naming);
+        expect(bits(corners[0]) == third && bits(corners[1]) == third, "the same bits", naming);
+    }
+    cross(bezorika_crossing, in, &kind, corners, &place);
+    expect(bits(corners[0]) == third && bits(corners[1]) == third + 1, "plain, as named", 0);
+    named(in, 1, 0.0, out);
+    cross(bezorika_crossing, out, &kind, corners, &place);
+    expect(bits(corners[0]) == third && bits(corners[1]) == third, "plain, places changed", 1);
 }
 
 static uint64_t orient(const double in[6], int64_t *sign, uint64_t *place)
@@ -94,12 +141,15 @@ static void not_finite(double bad)
     for (int all = 0; all < 2; all++)
         for (int at = 0; at < 8; at++) {
             for (int i = 0; i < 8; i++)
-                in[i] = i == at || (all && i > at) ? bad : i;
-            expect(cross(in, &kind, corners, &place) == BEZORIKA_NOT_FINITE, "crossing refused", at);
-            expect(place == (uint64_t)at, "place of the number", at);
-            expect(kind == LENT, "kind as lent", at);
-            for (int k = 0; k < 4; k++)
-                expect(corners[k] == LENT_CORNER, "corner as lent", at);
+                in[i] = i == at || (all && i > at) ? bad : 8 - i;
+            for (int mode = 0; mode < 2; mode++) {
+                entry *called = mode ? bezorika_crossing_ordered : bezorika_crossing;
+                expect(cross(called, in, &kind, corners, &place) == BEZORIKA_NOT_FINITE, "crossing refused", at);
+                expect(place == (uint64_t)at, "place of the number", at);
+                expect(kind == LENT, "kind as lent", at);
+                for (int k = 0; k < 4; k++)
+                    expect(corners[k] == LENT_CORNER, "corner as lent", at);
+            }
             if (at < 6) {
                 expect(orient(in, &sign, &place) == BEZORIKA_NOT_FINITE, "orientation refused", at);
                 expect(place == (uint64_t)at, "place of the number", at);
@@ -111,6 +161,7 @@ static void not_finite(double bad)
 int main(void)
 {
     crossings();
+    namings();
     orientations();
     not_finite(NAN);
     not_finite(-NAN);

@@ -35,6 +35,7 @@ static struct pool pool, lent;
 static struct edges edges;
 static uint32_t taken[SIZE], taken_lent[SIZE];
 static uint32_t used, counts[4];
+static uint32_t mode;
 static uint64_t place;
 
 /* Numbers that nobody else stores, so that a place which was written shows. */
@@ -105,7 +106,7 @@ static uint64_t load(size_t size)
 
 static uint64_t sweep_sized(uint32_t operation, size_t points, size_t marks, size_t taken_size, uint32_t loaded)
 {
-    return bezorika_subdivide(pool.points, points, pool.marks, marks, loaded, operation, taken, taken_size, counts, &place);
+    return bezorika_subdivide(pool.points, points, pool.marks, marks, loaded, operation, mode, taken, taken_size, counts, &place);
 }
 
 static uint64_t sweep(uint32_t operation, size_t size)
@@ -302,6 +303,22 @@ static void sweep_refused_cut(void)
     keep();
     EXPECT(sweep(1, 64) == 7 && place < counts[2]);
     EXPECT(counts[0] > 0 && counts[2] == 8 + 2 * counts[1] && rest_as_lent(counts[2]));
+}
+
+/* (1,0)-(2,1) lies below (0,2)-(3,0) and is named first, though it begins later: the cut's x is a last digit apart in the two modes. The
+   bits are the Rust's, as named and in order. */
+static void sweep_last_digit(void)
+{
+    uint64_t x[2];
+    no_edges();
+    edge(1, 0, 1, 0, 2, 1);
+    edge(0, 0, 0, 2, 3, 0);
+    fill();
+    EXPECT(load(16) == 0 && sweep(BEZORIKA_UNION, 16) == 0 && counts[1] == 2);
+    for (int r = 4; r < 8; r++) {
+        memcpy(x, pool.points[r], sizeof x);
+        EXPECT(x[0] == (mode == BEZORIKA_PLAIN ? 0x3ffccccccccccccd : 0x3ffccccccccccccc) && x[1] == 0x3fe999999999999a);
+    }
 }
 
 /* ---- ties, and another order of the edges */
@@ -580,17 +597,23 @@ int main(void)
     loading_sizes();
     loading_numbers();
     loading_records();
-    sweep_sizes();
-    sweep_records();
-    sweep_squares();
-    sweep_full();
-    sweep_refused_cut();
-    another_order();
-    tie_told();
-    connect_squares();
-    connect_touching();
-    connect_nested();
-    connect_open();
+    /* every number but 0 is the ordered mode */
+    static const uint32_t modes[3] = {BEZORIKA_PLAIN, BEZORIKA_ORDERED, 0xffffffff};
+    for (int i = 0; i < 3; i++) {
+        mode = modes[i];
+        sweep_sizes();
+        sweep_records();
+        sweep_squares();
+        sweep_full();
+        sweep_refused_cut();
+        sweep_last_digit();
+        another_order();
+        tie_told();
+        connect_squares();
+        connect_touching();
+        connect_nested();
+        connect_open();
+    }
     connect_checks();
     connect_half_listed();
     connect_room();

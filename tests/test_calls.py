@@ -26,7 +26,7 @@ class Refused(unittest.TestCase):
     def test_a_number_that_is_not_finite_is_told_with_the_lowest_place(self):
         bad = ["7ff8000000000000", "fff8000000000000", "7ff0000000000001", "ffffffffffffffff", "7ff0000000000000", "fff0000000000000"]
         lines, wanted = [], []
-        for word, count in (("orient", 6), ("cross", 8)):
+        for word, count in (("orient", 6), ("cross", 8), ("ordered-cross", 8)):
             for b in bad:
                 for at in range(count):
                     for rest in (bits(1.0), b):
@@ -46,6 +46,9 @@ class Malformed(unittest.TestCase):
             "orient ",
             "cross " + " ".join([one] * 7),
             "cross " + " ".join([one] * 9),
+            "ordered " + " ".join([one] * 8),
+            "ordered-orient " + " ".join([one] * 6),
+            "ordered-cross " + " ".join([one] * 7),
             good + " ",
             " " + good,
             good.replace(" ", "  ", 1),
@@ -87,6 +90,15 @@ class Malformed(unittest.TestCase):
         run = subprocess.run(CALLS, input=given, capture_output=True, timeout=60)
         lines = given.count(b"\n") + (not given.endswith(b"\n"))
         self.assertEqual(run.stdout, b"malformed\n" * lines)
+
+
+class Modes(unittest.TestCase):
+    def test_p4_is_p5_in_the_ordered_mode(self):
+        """Document 01's P4 and P5; ordered, the segments of P4 change places (02, #102)."""
+        point, line = [bits(1.0)] * 4, [bits(0.0)] * 2 + [bits(2.0)] * 2
+        lines = [" ".join([word, *first, *second]) for word in ("cross", "ordered-cross") for first, second in ((point, line), (line, point))]
+        overlap = " ".join(["overlap", *point])
+        self.assertEqual(answers(lines), ["none", overlap, overlap, overlap, ""])
 
 
 class Signs(unittest.TestCase):

@@ -1,4 +1,5 @@
-"""The program `overlay`: sheets and what it prints. Expected answers are document 01's, or written by hand from it; the floor's map is the Rust's."""
+"""The program `overlay`: sheets and what it prints. Expected answers are document 01's, or written by hand from it; the maps of the floor and of layers
+that change places are the wrapped Rust's (`compare/README.md`)."""
 import os
 import struct
 import subprocess
@@ -9,6 +10,10 @@ OVERLAY = ["tests/x86", "target/bin/overlay"]
 
 def bits(x):
     return struct.pack(">d", x).hex()
+
+
+def number(pattern):
+    return struct.unpack(">d", pattern.to_bytes(8, "big"))[0]
 
 
 def edge(ring, *numbers):
@@ -89,6 +94,17 @@ class Maps(unittest.TestCase):
             more = [] if operation == "intersection" else far
             count = int(alone[0].split()[1]) + (1 if more else 0)
             self.assertEqual(beside, [f"contours {count}"] + alone[1:] + more)
+
+    def test_a_map_may_change_where_layers_change_places(self):
+        """Crossings keep their bits then, and whole maps need not: edges of both layers lie on one line (docs/PROMISES.md)."""
+        third, more, above = 0x3FE5555555555555, 0x3FE5555555555556, 0x3FF5555555555555
+        at = lambda x, y: (number(x), number(y))
+        triangle, ring = [(0, 2), (1, 2), (1, 1)], [(1, 2), (0, 0), (1, 1), (0, 2)]
+        walls = lambda name, corners: [edge(name, *a, *b) for a, b in zip(corners, corners[1:] + corners[:1])]
+        upper = contour("-", 0, [], [(0, 2), at(more, above), (1, 2), (0, 2)])
+        lower = contour("-", 0, [], [at(third, above), (1, 1), at(more, above), at(third, above)])
+        self.assertEqual(overlay(sheet("intersection", walls(0, triangle), walls(1, ring))), printed(upper, lower))
+        self.assertEqual(overlay(sheet("intersection", walls(0, ring), walls(1, triangle))), printed(upper))
 
     def test_nothing(self):
         self.assertEqual(overlay("operation xor\nsubject 0\nclip 0\n"), "contours 0\n")

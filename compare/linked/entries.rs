@@ -4,36 +4,27 @@ use inputs::Scene;
 #[link(name = "entries", kind = "static")]
 extern "C" {
     fn bezorika_orientation(
-        ax: f64,
-        ay: f64,
-        bx: f64,
-        by: f64,
-        cx: f64,
-        cy: f64,
-        sign: &mut i64,
-        place: &mut u64,
+        ax: f64, ay: f64, bx: f64, by: f64, cx: f64, cy: f64, sign: &mut i64, place: &mut u64,
     ) -> u64;
     fn bezorika_crossing(
-        ax: f64,
-        ay: f64,
-        bx: f64,
-        by: f64,
-        cx: f64,
-        cy: f64,
-        dx: f64,
-        dy: f64,
-        kind: &mut u64,
-        corners: &mut [f64; 4],
+        ax: f64, ay: f64, bx: f64, by: f64, cx: f64, cy: f64, dx: f64, dy: f64, kind: &mut u64, corners: &mut [f64; 4],
+        place: &mut u64,
+    ) -> u64;
+    fn bezorika_crossing_ordered(
+        ax: f64, ay: f64, bx: f64, by: f64, cx: f64, cy: f64, dx: f64, dy: f64, kind: &mut u64, corners: &mut [f64; 4],
         place: &mut u64,
     ) -> u64;
 }
+
+/// One of the two modes.
+type Crossing = unsafe extern "C" fn(f64, f64, f64, f64, f64, f64, f64, f64, &mut u64, &mut [f64; 4], &mut u64) -> u64;
 
 /// What was lent; an entry that writes where it should not changes it.
 const LENT: f64 = 77.0;
 const LENT_PLACE: u64 = 77;
 
-/// A number for none, a point, an overlap or lost; zeros alike, so that equality is of bits.
-#[derive(PartialEq)]
+/// A number for none, a point, an overlap or lost; and the corners' bits.
+#[derive(Clone, Copy, PartialEq)]
 pub struct Crossed {
     kind: u64,
     corners: [u64; 4],
@@ -48,17 +39,15 @@ impl Crossed {
             return Crossed { kind: 3, corners };
         }
         for (to, from) in corners.iter_mut().zip(list) {
-            *to = zeros_alike(*from);
+            *to = from.to_bits();
         }
         Crossed { kind: list.len() as u64 / 2, corners }
     }
-}
 
-fn zeros_alike(x: f64) -> u64 {
-    if x == 0.0 {
-        0
-    } else {
-        x.to_bits()
+    /// Minus zero as zero.
+    pub fn zeros_alike(self) -> Self {
+        let minus_zero = (-0.0f64).to_bits();
+        Crossed { corners: self.corners.map(|bits| if bits == minus_zero { 0 } else { bits }), ..self }
     }
 }
 
@@ -75,17 +64,25 @@ pub fn orientation([a, b, c, _]: Scene) -> Option<i64> {
     }
 }
 
-/// `None` where it is refused, or the place did not stay as lent.
+/// With the sign of zero; `None` where it is refused, or the place did not stay as lent.
 #[inline]
-pub fn crossing([a, b, c, d]: Scene) -> Option<Crossed> {
+fn crossed(entry: Crossing, [a, b, c, d]: Scene) -> Option<Crossed> {
     let (mut kind, mut corners, mut place) = (LENT_PLACE, [LENT; 4], LENT_PLACE);
     // SAFETY: the references are to numbers of our own, and there are four corners' places.
-    let code = unsafe {
-        bezorika_crossing(a[0], a[1], b[0], b[1], c[0], c[1], d[0], d[1], &mut kind, &mut corners, &mut place)
-    };
+    let code = unsafe { entry(a[0], a[1], b[0], b[1], c[0], c[1], d[0], d[1], &mut kind, &mut corners, &mut place) };
     if (code, place) == (0, LENT_PLACE) {
-        Some(Crossed { kind, corners: corners.map(zeros_alike) })
+        Some(Crossed { kind, corners: corners.map(f64::to_bits) })
     } else {
         None
     }
+}
+
+#[inline]
+pub fn crossing(s: Scene) -> Option<Crossed> {
+    crossed(bezorika_crossing, s)
+}
+
+#[inline]
+pub fn crossing_ordered(s: Scene) -> Option<Crossed> {
+    crossed(bezorika_crossing_ordered, s)
 }

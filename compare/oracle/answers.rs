@@ -1,10 +1,10 @@
-//! Answers by the published source. Each function takes the words after its name.
-use crate::words::{number, Words};
-use geo_booleanop::boolean::leaves::{
+//! Answers by the Rust that the module above names. Each function takes the words after its name.
+use super::boolean::leaves::{
     compare_segments, compute_fields, divide_segment, intersection, possible_intersection, signed_area,
     EdgeType, LineIntersection, NextAfter, ResultTransition, SweepEvent,
 };
-use geo_booleanop::boolean::Operation;
+use super::boolean::Operation;
+use crate::words::{number, Words};
 use geo_types::Coordinate;
 use std::cmp::Ordering;
 use std::collections::BinaryHeap;
@@ -13,9 +13,8 @@ use std::rc::{Rc, Weak};
 
 type Event = Rc<SweepEvent<f64>>;
 
-pub fn answer(line: &str) -> String {
-    let mut words = Words::of(line);
-    let called = catch_unwind(AssertUnwindSafe(|| match words.word()? {
+pub fn answer(function: &str, words: Words) -> String {
+    let called = catch_unwind(AssertUnwindSafe(|| match function {
         "cross" => cross(words),
         "orient" => orient(words),
         "before" => before(words),

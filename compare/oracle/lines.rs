@@ -1,16 +1,22 @@
 //! Calls over all families, one a line.
-use crate::words::{number, numbers};
+use crate::words::{number, numbers, plain_twin};
 use inputs::families::scene;
 use inputs::random::Random;
 use inputs::records::{segment, segments, within, Segment};
 use inputs::Point;
 use std::io::{self, Write};
 
-pub const FUNCTIONS: &[&str] = &["cross", "orient", "before", "segcmp", "class", "divide", "neigh", "nextup"];
+pub const FUNCTIONS: &[&str] = &[
+    "cross", "orient", "before", "segcmp", "class", "divide", "neigh", "nextup", "ordered-cross", "ordered-segcmp",
+    "ordered-neigh",
+];
 
-/// Whether there is such a function; `class` has a fixed number of calls.
+/// Whether there is such a function; `class` has a fixed number of calls. A function of the ordered mode has the calls of
+/// its plain twin.
 pub fn write(function: &str, count: u64, seed: u64, out: &mut impl Write) -> io::Result<bool> {
-    let line: fn(u64, &mut Random) -> String = match function {
+    let twin = plain_twin(function).unwrap_or(function);
+    let mode = function.strip_suffix(twin).unwrap_or_default();
+    let line: fn(u64, &mut Random) -> String = match twin {
         "cross" => cross,
         "orient" => orient,
         "before" => before_line,
@@ -23,7 +29,7 @@ pub fn write(function: &str, count: u64, seed: u64, out: &mut impl Write) -> io:
     };
     let mut random = Random(seed);
     for i in 0..count {
-        writeln!(out, "{}", line(i, &mut random))?;
+        writeln!(out, "{mode}{}", line(i, &mut random))?;
     }
     Ok(true)
 }

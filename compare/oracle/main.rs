@@ -1,9 +1,22 @@
-//! The Rust side of the comparison: writes calls, and answers them by the published source.
-mod answers;
+//! The Rust side of the comparison: writes calls, and answers them by the published source; in the ordered mode by the
+//! same source over the wrapped `intersection`.
 mod lines;
 mod words;
 
+#[path = "."]
+mod published {
+    use geo_booleanop::boolean;
+    pub mod answers;
+}
+
+#[path = "."]
+mod wrapped {
+    use geo_booleanop_ordered::boolean;
+    pub mod answers;
+}
+
 use std::io::{self, BufRead, BufWriter, Write};
+use words::{plain_twin, Words};
 
 const USAGE: &str = "usage: oracle answers < CALLS | oracle lines FUNCTION COUNT SEED";
 
@@ -14,7 +27,7 @@ fn main() -> io::Result<()> {
         ["answers"] => {
             std::panic::set_hook(Box::new(|_| ()));
             for line in io::stdin().lock().lines() {
-                writeln!(out, "{}", answers::answer(&line?))?;
+                writeln!(out, "{}", answer(&line?))?;
             }
         }
         ["lines", function, count, seed] => {
@@ -26,6 +39,15 @@ fn main() -> io::Result<()> {
         _ => usage(),
     }
     out.flush()
+}
+
+fn answer(line: &str) -> String {
+    let mut words = Words::of(line);
+    let function = words.word().unwrap_or_default();
+    match plain_twin(function) {
+        Some(twin) => wrapped::answers::answer(twin, words),
+        None => published::answers::answer(function, words),
+    }
 }
 
 fn usage() -> ! {

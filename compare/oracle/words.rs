@@ -1,6 +1,14 @@
 //! The words of a line: numbers as 16 lowercase hex digits of their bits, flags as 0 or 1.
 use std::str::SplitWhitespace;
 
+const ORDERED: &str = "ordered-";
+const IN_BOTH_MODES: &[&str] = &["cross", "segcmp", "neigh"];
+
+/// The plain function with the same words, if the name is one of the ordered mode.
+pub fn plain_twin(name: &str) -> Option<&str> {
+    name.strip_prefix(ORDERED).filter(|twin| IN_BOTH_MODES.contains(twin))
+}
+
 pub fn number(x: f64) -> String {
     format!("{:016x}", x.to_bits())
 }

@@ -1,7 +1,7 @@
 /* The stages and the sheet entry for another process: a request on standard input, its answer on standard output, numbers as this machine holds them.
    The comparison talks to it through pipes, so that it also runs where the archive's processor is emulated.
 
-   sweep:   1, edges, operation, places; ends, labels
+   sweep:   1, edges, operation, mode, places; ends, labels
             -> refusals of loading and of the sweep, place; counts; points, marks of the places in use; taken
    connect: 2, places, listed, corners, contours, holes; points, marks, list
             -> refusal, place; counts; corners, contours, holes
@@ -30,13 +30,13 @@ static void put(const void *from, size_t bytes)
 
 static void sweep(void)
 {
-    uint32_t head[3], used = 0;
+    uint32_t head[4], used = 0;
     uint64_t told[3] = {0, 0, 0};
     get(head, sizeof head);
     get(ends, head[0] * sizeof ends[0]);
     get(labels, head[0] * sizeof labels[0]);
-    told[0] = bezorika_load(ends, head[0], labels, head[0], points, head[2], marks, head[2], &used, &told[2]);
-    told[1] = bezorika_subdivide(points, head[2], marks, head[2], used, head[1], list, head[2], counts, &told[2]);
+    told[0] = bezorika_load(ends, head[0], labels, head[0], points, head[3], marks, head[3], &used, &told[2]);
+    told[1] = bezorika_subdivide(points, head[3], marks, head[3], used, head[1], head[2], list, head[3], counts, &told[2]);
     put(told, sizeof told);
     put(counts, sizeof counts);
     put(points, counts[2] * sizeof points[0]);

@@ -1,7 +1,7 @@
-//! 01's sweep by its two searching rules, over the published leaves, and whether a run of it is clean.
-use crate::events::{bounds, is, load, mate, partners, Event};
-use geo_booleanop::boolean::leaves::{compare_segments, compute_fields, possible_intersection};
-use geo_booleanop::boolean::Operation;
+//! 01's sweep by its two searching rules, over the Rust's leaves, and whether a run of it is clean.
+use super::boolean::leaves::{compare_segments, compute_fields, possible_intersection};
+use super::boolean::Operation;
+use super::events::{bounds, is, load, mate, partners, Event};
 use inputs::sheets::Edge;
 use std::cmp::Ordering;
 use std::collections::BinaryHeap;

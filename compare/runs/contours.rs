@@ -1,8 +1,8 @@
-//! Connection beside the published `connect_edges`, on the same list.
-use crate::entries::{Connected, Pool};
-use crate::events::{mate, Event};
-use crate::sweep::transition_number;
-use geo_booleanop::boolean::leaves::{connect_edges, Contour};
+//! Connection beside the Rust's `connect_edges`, on the same list.
+use super::boolean::leaves::{connect_edges, Contour};
+use super::entries::{Connected, Pool};
+use super::events::{mate, Event};
+use super::sweep::transition_number;
 use inputs::random::Random;
 use std::collections::HashMap;
 use std::panic::{catch_unwind, AssertUnwindSafe};
@@ -15,8 +15,8 @@ pub enum Compared {
     Refused(u64),
 }
 
-/// The published contours; none where it panics.
-pub fn published(listed: &[Event]) -> Option<Vec<Contour<f64>>> {
+/// The Rust's contours; none where it panics.
+pub fn by_the_rust(listed: &[Event]) -> Option<Vec<Contour<f64>>> {
     catch_unwind(AssertUnwindSafe(|| connect_edges(listed))).ok()
 }
 

@@ -1,5 +1,5 @@
 //! The archives' entries, behind a process that links them (`bridge.c`): loading, the sweep, connection, and whole sheets.
-use geo_booleanop::boolean::Operation;
+use super::boolean::Operation;
 use inputs::sheets::Edge;
 use std::io::{BufReader, BufWriter, Read, Write};
 use std::process::{Child, ChildStdin, ChildStdout, Command, Stdio};
@@ -87,8 +87,8 @@ impl Bridge {
         Bridge { process, to, from }
     }
 
-    pub fn sweep(&mut self, sheet: &[Edge], operation: Operation, size: usize) -> Swept {
-        self.put(&[1, sheet.len() as u32, operation_number(operation), size as u32]);
+    pub fn sweep(&mut self, sheet: &[Edge], operation: Operation, mode: u32, size: usize) -> Swept {
+        self.put(&[1, sheet.len() as u32, operation_number(operation), mode, size as u32]);
         for e in sheet {
             self.put_numbers(&[e.from[0], e.from[1], e.to[0], e.to[1]]);
         }

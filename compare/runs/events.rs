@@ -1,6 +1,6 @@
-//! Events of the published source, made from edges, and what a sweep of them is told by.
-use geo_booleanop::boolean::leaves::SweepEvent;
-use geo_booleanop::boolean::BoundingBox;
+//! Events of the Rust, made from edges, and what a sweep of them is told by.
+use super::boolean::leaves::SweepEvent;
+use super::boolean::BoundingBox;
 use geo_types::Coordinate;
 use inputs::sheets::Edge;
 use std::rc::{Rc, Weak};

@@ -1,6 +1,6 @@
 //! Lists of classified events that no sweep made: many rings at one point, nested holes, open ends.
-use crate::events::{partners, Event};
-use geo_booleanop::boolean::leaves::ResultTransition;
+use super::boolean::leaves::ResultTransition;
+use super::events::{partners, Event};
 use geo_types::Coordinate;
 use inputs::random::Random;
 

@@ -1,25 +1,25 @@
-//! The sweep beside the published `subdivide`, on the same edges.
-use crate::entries::{Pool, Record, Swept};
-use crate::events::{bounds, is, load, mate, Event};
-use geo_booleanop::boolean::leaves::{subdivide, EdgeType, ResultTransition};
-use geo_booleanop::boolean::Operation;
+//! The sweep beside the Rust's `subdivide`, on the same edges.
+use super::boolean::leaves::{subdivide, EdgeType, ResultTransition};
+use super::boolean::Operation;
+use super::entries::{Pool, Record, Swept};
+use super::events::{bounds, is, load, mate, Event};
 use inputs::sheets::Edge;
 use std::collections::BinaryHeap;
 
-/// The published run: the events taken, and all that keeps them alive.
-pub struct Published {
+/// The Rust's run: the events taken, and all that keeps them alive.
+pub struct Theirs {
     pub taken: Vec<Event>,
     pub divisions: usize,
     _rest: BinaryHeap<Event>,
 }
 
-pub fn published(sheet: &[Edge], operation: Operation) -> Published {
+pub fn by_the_rust(sheet: &[Edge], operation: Operation) -> Theirs {
     let events = load(sheet);
     let (subject, clip) = (bounds(&events, true), bounds(&events, false));
     let mut queue: BinaryHeap<Event> = events.into_iter().collect();
     let taken = subdivide(&mut queue, &subject, &clip, operation);
     let divisions = (taken.len() + queue.len()) / 2 - sheet.len();
-    Published { taken, divisions, _rest: queue }
+    Theirs { taken, divisions, _rest: queue }
 }
 
 /// What of an event must be equal; a below link by where it stands in the taken list.

@@ -1,15 +1,15 @@
 //! A whole sheet beside the Rust's contours, text against text (01, 'The sheet'), both written here.
-use crate::contours::{is_half_listed, Compared};
-use crate::entries::Bridge;
-use crate::events::Event;
-use geo_booleanop::boolean::leaves::Contour;
-use geo_booleanop::boolean::Operation;
+use super::boolean::leaves::Contour;
+use super::boolean::Operation;
+use super::contours::{is_half_listed, Compared};
+use super::entries::Bridge;
+use super::events::Event;
 use inputs::sheets::Edge;
 use std::fmt::Write;
 
 /// Edges of a sheet and places of its pool.
 const MAX_EDGES: usize = 256;
-const POOL: usize = 1024;
+pub const POOL: usize = 1024;
 /// More than the text of any map takes.
 const ROOM: u32 = 1 << 16;
 
@@ -31,7 +31,7 @@ pub fn compared(sheet: &[Edge], operation: Operation, theirs: &Theirs, bridge: &
 }
 
 /// The refusals of 01 that a clean run can meet.
-fn refused(sheet: &[Edge], theirs: &Theirs) -> Option<u64> {
+pub fn refused(sheet: &[Edge], theirs: &Theirs) -> Option<u64> {
     if sheet.len() > MAX_EDGES {
         Some(1)
     } else if 2 * (sheet.len() + theirs.divisions) > POOL {
@@ -44,6 +44,8 @@ fn refused(sheet: &[Edge], theirs: &Theirs) -> Option<u64> {
         None
     }
 }
+
+pub const LAYERS: [(&str, bool); 2] = [("subject", true), ("clip", false)];
 
 pub fn operation_word(operation: Operation) -> &'static str {
     match operation {
@@ -60,7 +62,7 @@ fn bits(numbers: &[f64]) -> String {
 
 fn sheet_text(sheet: &[Edge], operation: Operation) -> String {
     let mut text = format!("operation {}\n", operation_word(operation));
-    for (word, subject) in [("subject", true), ("clip", false)] {
+    for (word, subject) in LAYERS {
         let layer: Vec<&Edge> = sheet.iter().filter(|e| e.subject == subject).collect();
         writeln!(text, "{word} {}", layer.len()).expect("a string takes it");
         for e in layer {
@@ -70,7 +72,7 @@ fn sheet_text(sheet: &[Edge], operation: Operation) -> String {
     text
 }
 
-fn map_text(contours: &[Contour<f64>]) -> String {
+pub fn map_text(contours: &[Contour<f64>]) -> String {
     let mut lines = vec![format!("contours {}", contours.len())];
     for contour in contours {
         let parent = contour.hole_of.map_or("-".to_string(), |parent| parent.to_string());

@@ -5,6 +5,8 @@ import subprocess
 from model import POOL, Refused
 
 SWEEP, CONNECT, OVERLAY = 1, 2, 3
+# The mode of crossing in which sheets are worked.
+ORDERED = 1
 
 
 class Bridge:
@@ -46,7 +48,7 @@ class Bridge:
         edges = sheet.edges
         ends = b"".join(struct.pack("<4d", *edge[:4]) for edge in edges)
         labels = b"".join(struct.pack("<2I", *edge[4:]) for edge in edges)
-        self.put(struct.pack("<4I", SWEEP, len(edges), sheet.operation, POOL), ends, labels)
+        self.put(struct.pack("<5I", SWEEP, len(edges), sheet.operation, ORDERED, POOL), ends, labels)
         loading, sweeping, place = self.get("3Q")
         taken, _, used, _ = self.get("4I")
         pool = self.get(f"{16 * used + 48 * used}s")

@@ -1,6 +1,7 @@
 //! Nanoseconds a call, ours beside the Rust's, on the same inputs in one run.
 use crate::clock::now;
-use crate::{entries, published};
+use crate::entries::{crossing, crossing_ordered, orientation};
+use crate::{published, wrapped};
 use inputs::families::{self, Family};
 use inputs::random::Random;
 use inputs::Scene;
@@ -24,11 +25,13 @@ pub fn print(seed: u64) {
     let mut standin = vec![];
     for (name, family) in ORIENTATION {
         let scenes = made(|_, random| family(random), seed);
-        let times = both(&scenes, entries::orientation, published::orientation);
+        let times = both(&scenes, orientation, published::theirs::calls::orientation);
         row(&format!("orientation, {name} (stand-in for `robust`)"), times);
         standin.push(times[1]);
     }
-    row("crossing, all families", both(&made(families::scene, seed), entries::crossing, published::crossing));
+    let scenes = made(families::scene, seed);
+    row("crossing, all families", both(&scenes, crossing, published::theirs::calls::crossing));
+    row("ordered crossing, all families (wrapped Rust)", both(&scenes, crossing_ordered, wrapped::theirs::calls::crossing));
     let verdict = if standin[0] <= BASELINE { "a baseline" } else { "too slow for a baseline" };
     println!("\nThe stand-in for `robust`, ordinary input: {:.1} ns a call, {verdict} (at most {BASELINE})", standin[0]);
 }

@@ -25,7 +25,7 @@ pub struct Way<'a> {
 }
 
 /// Nothing is to be made ready.
-pub fn plain<'a>(run: impl FnMut() + 'a) -> Way<'a> {
+pub fn at_once<'a>(run: impl FnMut() + 'a) -> Way<'a> {
     Way { prepare: Box::new(|| ()), run: Box::new(run) }
 }
 

@@ -1,5 +1,5 @@
-//! Our archives beside the published code, GEOS and Clipper: one process, the same plans, the union of their layers.
-//! `speed` prints the tables; exit status 1 if a map is not the Rust's. `speed FAMILY EDGES TIMES` only runs our three
+//! Our archives beside the Rust, published and wrapped, GEOS and Clipper: one process, the same plans, the union of their
+//! layers. `speed` prints the tables; exit status 1 if a map is not the wrapped Rust's. `speed FAMILY EDGES TIMES` only runs our three
 //! stages over and over, for a profiler.
 mod calls;
 mod clock;
@@ -7,15 +7,26 @@ mod peers;
 mod plan;
 mod stages;
 mod tables;
-mod theirs;
 
+#[allow(dead_code)]
 #[path = "../linked/entries.rs"]
 mod entries;
+
 #[allow(dead_code)]
-#[path = "../runs/events.rs"]
-mod events;
-#[path = "../linked/published.rs"]
-mod published;
+#[path = "."]
+mod published {
+    use geo_booleanop::boolean;
+    #[path = "theirs.rs"]
+    pub mod theirs;
+}
+
+#[allow(dead_code)]
+#[path = "."]
+mod wrapped {
+    use geo_booleanop_ordered::boolean;
+    #[path = "theirs.rs"]
+    pub mod theirs;
+}
 
 use inputs::plans::{APART, CROSSING};
 use plan::Plan;

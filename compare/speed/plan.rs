@@ -1,7 +1,8 @@
 //! One plan: what is known of it, and that all who compute its union say the same.
 use crate::peers::Rings;
 use crate::stages::Stages;
-use crate::{theirs, SEED};
+use crate::wrapped::theirs;
+use crate::SEED;
 use inputs::plans::Family;
 use inputs::random::Random;
 use inputs::sheets::Sheet;
@@ -11,7 +12,7 @@ pub struct Plan {
     pub sheet: Sheet,
 }
 
-/// What of a plan stands in each row, and whether our map is the Rust's and its area that of the peers.
+/// What of a plan stands in each row, and whether our map is the wrapped Rust's and its area that of the peers.
 pub struct Known {
     pub edges: usize,
     pub divisions: usize,

@@ -23,6 +23,7 @@ extern "C" {
         marks_length: usize,
         loaded: u32,
         operation: u32,
+        mode: u32,
         taken: *mut u32,
         taken_length: usize,
         counts: &mut [u32; 4],
@@ -55,6 +56,8 @@ extern "C" {
 }
 
 const UNION: u32 = 2;
+/// As `overlay` works its sheets.
+const ORDERED: u32 = 1;
 
 /// What the three stages are lent, and what they left.
 pub struct Stages {
@@ -116,7 +119,8 @@ impl Stages {
         // SAFETY: as above.
         let code = unsafe {
             bezorika_subdivide(
-                points, size, marks, size, used, UNION, self.taken.as_mut_ptr(), size, &mut self.swept, &mut place,
+                points, size, marks, size, used, UNION, ORDERED, self.taken.as_mut_ptr(), size, &mut self.swept,
+                &mut place,
             )
         };
         answered(code, place);

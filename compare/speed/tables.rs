@@ -1,9 +1,9 @@
 //! The tables, as the documents hold them.
-use crate::clock::{plain, quickest, Way};
+use crate::clock::{at_once, quickest, Way};
 use crate::peers::Rings;
 use crate::plan::{Known, Plan};
 use crate::stages::{overlay, Stages};
-use crate::{calls, theirs, LARGEST, SEED, SHEET};
+use crate::{calls, published, wrapped, LARGEST, SEED, SHEET};
 use inputs::plans::{APART, CROSSING};
 use std::cell::RefCell;
 use std::hint::black_box;
@@ -14,7 +14,7 @@ const APART_EDGES: u64 = 2048;
 /// As many as a map of 256 edges can take.
 const OUT: usize = 1 << 16;
 
-/// Whether every map was the Rust's.
+/// Whether every map was the wrapped Rust's.
 pub fn print() -> bool {
     calls::print(SEED);
     let mut alike = sheets();
@@ -55,10 +55,23 @@ fn our_connection(stages: &RefCell<Stages>) -> Way<'_> {
     Way { prepare: Box::new(swept), run: Box::new(|| stages.borrow_mut().connect()) }
 }
 
+/// The published code, from edges to contours.
+fn rust(plan: &Plan) -> Way<'_> {
+    at_once(|| drop(black_box(published::theirs::contours(&plan.sheet))))
+}
+
+/// The same over the wrapped crossing, whose map is ours.
+fn wrapped_rust(plan: &Plan) -> Way<'_> {
+    at_once(|| drop(black_box(wrapped::theirs::contours(&plan.sheet))))
+}
+
 fn sheets() -> bool {
     head(
         "Sheets, microseconds. Ours from bytes to bytes, and its load, sweep and connection alone; the Rust from edges already read to contours",
-        &["family", "edges", "divisions", "largest status", "ours, bytes", "ours, stages", "the Rust", "bytes / Rust", "stages / Rust"],
+        &[
+            "family", "edges", "divisions", "largest status", "ours, bytes", "ours, stages", "the Rust", "wrapped Rust",
+            "bytes / Rust", "stages / Rust", "stages / wrapped",
+        ],
     );
     let mut alike = true;
     for (name, family) in CROSSING {
@@ -68,12 +81,13 @@ fn sheets() -> bool {
             let (text, mut out) = (plan.text(), vec![0; OUT]);
             let stages = RefCell::new(Stages::of(&plan.sheet, SHEET));
             let times = quickest([
-                plain(|| _ = black_box(overlay(&text, &mut out))),
+                at_once(|| _ = black_box(overlay(&text, &mut out))),
                 our_stages(&stages),
-                plain(|| drop(black_box(theirs::contours(&plan.sheet)))),
+                rust(&plan),
+                wrapped_rust(&plan),
             ]);
-            let [bytes, ours, rust] = times;
-            row(&plan, &known, &times, &[bytes / rust, ours / rust]);
+            let [bytes, ours, rust, wrapped] = times;
+            row(&plan, &known, &times, &[bytes / rust, ours / rust, ours / wrapped]);
             alike &= known.alike;
         }
     }
@@ -83,21 +97,25 @@ fn sheets() -> bool {
 fn arrays(plans: &[Plan]) -> bool {
     head(
         "Arrays of numbers through the C entries, microseconds: loading, the sweep and connection, and of it connection",
-        &["family", "edges", "divisions", "largest status", "ours", "the Rust", "ours, connection", "the Rust's", "ratio", "of connection"],
+        &[
+            "family", "edges", "divisions", "largest status", "ours", "the Rust", "wrapped Rust", "ours, connection", "wrapped Rust's",
+            "ours / Rust", "ours / wrapped", "of connection",
+        ],
     );
     let mut alike = true;
     for plan in plans {
         let known = plan.known(LARGEST);
         let stages = RefCell::new(Stages::of(&plan.sheet, LARGEST));
-        let swept = theirs::sweep(&plan.sheet);
+        let swept = wrapped::theirs::sweep(&plan.sheet);
         let times = quickest([
             our_stages(&stages),
-            plain(|| drop(black_box(theirs::contours(&plan.sheet)))),
+            rust(plan),
+            wrapped_rust(plan),
             our_connection(&stages),
-            plain(|| drop(black_box(theirs::connect(&swept)))),
+            at_once(|| drop(black_box(wrapped::theirs::connect(&swept)))),
         ]);
-        let [ours, rust, connection, rusts] = times;
-        row(plan, &known, &times, &[ours / rust, connection / rusts]);
+        let [ours, rust, wrapped, connection, wrapped_connection] = times;
+        row(plan, &known, &times, &[ours / rust, ours / wrapped, connection / wrapped_connection]);
         alike &= known.alike;
     }
     alike
@@ -115,9 +133,9 @@ fn peers(plans: &[Plan]) {
         let rings = Rings::of(&plan.sheet);
         let times = quickest([
             our_stages(&stages),
-            plain(|| drop(black_box(theirs::contours(&plan.sheet)))),
-            plain(|| _ = black_box(rings.geos())),
-            plain(|| _ = black_box(rings.clipper())),
+            rust(plan),
+            at_once(|| _ = black_box(rings.geos())),
+            at_once(|| _ = black_box(rings.clipper())),
         ]);
         let [ours, _, geos, clipper] = times;
         row(plan, &plan.known(size), &times, &[ours / geos, ours / clipper]);

@@ -1,7 +1,13 @@
-//! The published code on the same edges: loading, `subdivide`, `connect_edges`.
-use crate::events::{bounds, load, Event};
-use geo_booleanop::boolean::leaves::{connect_edges, subdivide, Contour};
-use geo_booleanop::boolean::Operation;
+//! The Rust that the module above names on the same edges: loading, `subdivide`, `connect_edges`.
+#[path = "../linked/calls.rs"]
+pub mod calls;
+#[path = "../runs/events.rs"]
+mod events;
+
+use super::boolean;
+use boolean::leaves::{connect_edges, subdivide, Contour};
+use boolean::Operation;
+use events::{bounds, load, Event};
 use inputs::sheets::Edge;
 use std::collections::BinaryHeap;
 

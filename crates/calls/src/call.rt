@@ -10,6 +10,8 @@ use crate::orient;
 use crate::segcmp;
 use crate::words::MISSING;
 use crate::words::passed;
+use crossing::ORDERED;
+use crossing::PLAIN;
 
 pub fn answer(line: &[u8], out: &mut [u8], at: usize) -> usize {
     let orient = passed(line, 0, b"orient");
@@ -18,7 +20,7 @@ pub fn answer(line: &[u8], out: &mut [u8], at: usize) -> usize {
     }
     let cross = passed(line, 0, b"cross");
     if cross != MISSING {
-        return cross::answer(line, cross, out, at);
+        return cross::answer(line, cross, PLAIN, out, at);
     }
     let nextup = passed(line, 0, b"nextup");
     if nextup != MISSING {
@@ -35,7 +37,7 @@ fn records(line: &[u8], out: &mut [u8], at: usize) -> usize {
     }
     let segcmp = passed(line, 0, b"segcmp");
     if segcmp != MISSING {
-        return segcmp::answer(line, segcmp, out, at);
+        return segcmp::answer(line, segcmp, PLAIN, out, at);
     }
     let class = passed(line, 0, b"class");
     if class != MISSING {
@@ -52,7 +54,24 @@ fn divisions(line: &[u8], out: &mut [u8], at: usize) -> usize {
     }
     let neigh = passed(line, 0, b"neigh");
     if neigh != MISSING {
-        return neigh::answer(line, neigh, out, at);
+        return neigh::answer(line, neigh, PLAIN, out, at);
+    }
+    ordered(line, out, at)
+}
+
+// The calls in the ordered mode of crossing.
+fn ordered(line: &[u8], out: &mut [u8], at: usize) -> usize {
+    let cross = passed(line, 0, b"ordered-cross");
+    if cross != MISSING {
+        return cross::answer(line, cross, ORDERED, out, at);
+    }
+    let segcmp = passed(line, 0, b"ordered-segcmp");
+    if segcmp != MISSING {
+        return segcmp::answer(line, segcmp, ORDERED, out, at);
+    }
+    let neigh = passed(line, 0, b"ordered-neigh");
+    if neigh != MISSING {
+        return neigh::answer(line, neigh, ORDERED, out, at);
     }
     answers::malformed(out, at)
 }

@@ -1,4 +1,4 @@
-// cross AX AY BX BY CX CY DX DY: none, point X Y, overlap X Y X Y or lost.
+// cross AX AY BX BY CX CY DX DY: none, point X Y, overlap X Y X Y or lost. ordered-cross: the same in the ordered mode.
 use crate::answers;
 use crate::words;
 use crossing::Crossed;
@@ -29,12 +29,12 @@ fn found(out: &mut [u8], from: usize, intersection: LineIntersection) -> usize {
     }
 }
 
-pub fn answer(line: &[u8], from: usize, out: &mut [u8], at: usize) -> usize {
+pub fn answer(line: &[u8], from: usize, mode: u32, out: &mut [u8], at: usize) -> usize {
     let mut n = [0.0; 8];
     if words::numbers(line, from, &mut n) != line.len() {
         return answers::malformed(out, at);
     }
-    match crossing(n[0], n[1], n[2], n[3], n[4], n[5], n[6], n[7]) {
+    match crossing(mode, n[0], n[1], n[2], n[3], n[4], n[5], n[6], n[7]) {
         Crossed::Refused(refusal) => answers::refused(out, at, refusal),
         Crossed::Found(intersection) => found(out, at, intersection),
     }

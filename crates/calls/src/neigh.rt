@@ -118,8 +118,14 @@ fn made(used: u32) -> u32 {
     if USED <= used { used - USED } else { 0 }
 }
 
-fn met(points: &mut [[f64; 2]], marks: &mut [[u32; 12]], out: &mut [u8], at: usize) -> usize {
-    let n = possible_intersection(points, marks, USED, FIRST, SECOND);
+fn met(
+    points: &mut [[f64; 2]],
+    marks: &mut [[u32; 12]],
+    mode: u32,
+    out: &mut [u8],
+    at: usize,
+) -> usize {
+    let n = possible_intersection(points, marks, USED, FIRST, SECOND, mode);
     let met = n.met;
     match met {
         Met::Refused(refusal) => answers::refused(out, at, refusal),
@@ -127,12 +133,12 @@ fn met(points: &mut [[f64; 2]], marks: &mut [[u32; 12]], out: &mut [u8], at: usi
     }
 }
 
-pub fn answer(line: &[u8], from: usize, out: &mut [u8], at: usize) -> usize {
+pub fn answer(line: &[u8], from: usize, mode: u32, out: &mut [u8], at: usize) -> usize {
     let mut points = [[0.0; 2]; 8];
     let mut marks = [[0u32; 12]; 8];
     let next = record(line, from, &mut points, &mut marks, FIRST, 1);
     if record(line, next, &mut points, &mut marks, SECOND, 3) != line.len() {
         return answers::malformed(out, at);
     }
-    met(&mut points, &mut marks, out, at)
+    met(&mut points, &mut marks, mode, out, at)
 }

@@ -1,4 +1,5 @@
 // segcmp LX LY RX RY S C  LX LY RX RY S C: less, equal or greater; `same` for the second is the first again. The first is record 0, the second 2.
+// ordered-segcmp: the same with the crossing in the ordered mode.
 use crate::answers;
 use crate::left;
 use crate::words;
@@ -17,15 +18,15 @@ fn told(out: &mut [u8], at: usize, compared: Compared) -> usize {
     }
 }
 
-pub fn answer(line: &[u8], from: usize, out: &mut [u8], at: usize) -> usize {
+pub fn answer(line: &[u8], from: usize, mode: u32, out: &mut [u8], at: usize) -> usize {
     let mut points = [[0.0; 2]; 4];
     let mut marks = [[0u32; 12]; 4];
     let next = left::record(line, from, &mut points, &mut marks, 0, 1);
     if words::passed(line, next, b" same") == line.len() {
-        return told(out, at, compare_segments(&points, &marks, 0, 0));
+        return told(out, at, compare_segments(&points, &marks, 0, 0, mode));
     }
     if left::record(line, next, &mut points, &mut marks, 2, 3) == line.len() {
-        return told(out, at, compare_segments(&points, &marks, 0, 2));
+        return told(out, at, compare_segments(&points, &marks, 0, 2, mode));
     }
     answers::malformed(out, at)
 }

@@ -13,6 +13,7 @@ use events::Link;
 use events::points::is_unfit_point;
 use events::pool::read_event;
 use numbers::Coordinate;
+use numbers::points;
 
 // Refusal 2: a record of the pool whose point is not fit.
 pub fn is_unfit_at(points: &[[f64; 2]], marks: &[[u32; 12]], n: usize, r: u32) -> bool
@@ -50,13 +51,7 @@ pub fn is_alike(points: &[[f64; 2]], marks: &[[u32; 12]], r: u32) -> bool
 pub fn is_ahead(p: Coordinate, q: Coordinate) -> bool
     ensures { λ r. ⌜ r ≡ ahead binary64 p q ⌝ }
 {
-    if p.x < q.x {
-        return true;
-    }
-    if q.x < p.x {
-        return false;
-    }
-    p.y < q.y
+    points::is_ahead(p, q)
 }
 
 // Left end not before its partner.

@@ -13,6 +13,8 @@ use crate::pools::USED;
 use crate::pools::X;
 use crate::pools::Y;
 use crate::told;
+use crossing::ORDERED;
+use crossing::PLAIN;
 use records::dividing::possible_intersection;
 
 // The places of both arrays, and how many are in use.
@@ -43,6 +45,7 @@ fn lend(points: &mut [[f64; 2]], marks: &mut [[u32; 12]], places: Places, pair: 
             places.2,
             pair.0,
             pair.1,
+            PLAIN,
         ));
     }
 }
@@ -76,7 +79,7 @@ fn named(label: &[u8], a: u32, b: u32, c: At) {
 }
 
 // Without the checks, which refuse such coordinates by 2.
-fn unchecked(label: &[u8], a: u32, b: u32) {
+fn unchecked(label: &[u8], a: u32, b: u32, mode: u32) {
     let mut points = pools::points();
     let mut marks = pools::marks();
     pools::place(&mut points, 0, 1, Segment(MINUS_HUGE, ZERO, HUGE, ZERO));
@@ -85,7 +88,7 @@ fn unchecked(label: &[u8], a: u32, b: u32) {
     let kept_marks = marks;
     told::say(label);
     told::say(b": ");
-    told::neighbours(neighbours::possible_intersection(&mut points, &mut marks, USED, a, b));
+    told::neighbours(neighbours::possible_intersection(&mut points, &mut marks, USED, a, b, mode));
     told::changes(&points, &marks, &kept_points, &kept_marks);
 }
 
@@ -159,8 +162,10 @@ pub fn stopped() {
         Segment(ZERO, THREE_TINY, TINY, ZERO),
         Segment(TINY, TINY, TINY, TWO_TINY),
     );
-    unchecked(b"lost", 0, 2);
-    unchecked(b"lost, the other way round", 2, 0);
+    unchecked(b"lost", 0, 2, PLAIN);
+    unchecked(b"lost, the other way round", 2, 0, PLAIN);
+    unchecked(b"lost, ordered", 0, 2, ORDERED);
+    unchecked(b"lost, ordered, the other way round", 2, 0, ORDERED);
 }
 
 // The places of both arrays, and how many are in use.

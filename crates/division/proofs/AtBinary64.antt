@@ -3,9 +3,9 @@ use mathlib.Core.Path.{_≡_}
 use mathlib.Core.Bool.{true}
 use Prim.Native.Nat.{ℕ}
 use lib.Ieee.{Float, lt, eq}
+use Rattle.numbers.specs.Binary64.{Finite}
 use Rattle.numbers.specs.declared.Coordinate.{Coordinate}
 use Rattle.numbers.specs.Next.{nextUp}
-use Rattle.numbers.proofs.Units.{Finite}
 use Rattle.numbers.proofs.Next.{above}
 use Rattle.numbers.proofs.NextSame.{next-same}
 use Rattle.events.specs.Binary64.{binary64}

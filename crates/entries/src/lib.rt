@@ -3,7 +3,8 @@
 ghost use mathlib.Core.Path.{_≡_};
 ghost use lib.Seq.{sets};
 ghost use Rattle.orientation.specs.Orientation as Orientation;
-ghost use Rattle.crossing.specs.Crossing.{crossingOf};
+ghost use Rattle.crossing.specs.Crossing.{crossingIn};
+ghost use Rattle.crossing.specs.Modes.{plain, ordered};
 ghost use Rattle.crossing.specs.Answer.{numberOf, valuesOf};
 ghost use Rattle.entries.specs.ToldTurn as ToldTurn;
 ghost use Rattle.entries.specs.ToldCrossing as ToldCrossing;
@@ -83,6 +84,25 @@ fn tell_crossing(found: LineIntersection, kind: &mut u64, corners: &mut [f64; 4]
     }
 }
 
+// What a crossing tells put into what the caller lends.
+fn tell_crossed(crossed: Crossed, kind: &mut u64, corners: &mut [f64; 4], place: &mut u64) -> u64
+    ensures { λ r. ⌜ r ≡ ToldCrossing.refusal crossed ⌝ }
+    ensures { λ _. ⌜ now (kind .exit) ≡ ToldCrossing.kind crossed (now (kind .entry)) ⌝ }
+    ensures { λ _. ⌜ now (corners .exit) ≡ ToldCrossing.corners crossed (now (corners .entry)) ⌝ }
+    ensures { λ _. ⌜ now (place .exit) ≡ ToldCrossing.place crossed (now (place .entry)) ⌝ }
+{
+    match crossed {
+        Crossed::Refused(why) => {
+            *place = why.place;
+            why.number
+        }
+        Crossed::Found(found) => {
+            tell_crossing(found, kind, corners);
+            0
+        }
+    }
+}
+
 #[no_mangle]
 pub extern "C" fn bezorika_crossing(
     ax: f64,
@@ -97,19 +117,35 @@ pub extern "C" fn bezorika_crossing(
     corners: &mut [f64; 4],
     place: &mut u64,
 ) -> u64
-    ensures { λ r. ⌜ r ≡ ToldCrossing.refusal (crossingOf ax ay bx by cx cy dx dy) ⌝ }
-    ensures { λ _. ⌜ now (kind .exit) ≡ ToldCrossing.kind (crossingOf ax ay bx by cx cy dx dy) (now (kind .entry)) ⌝ }
-    ensures { λ _. ⌜ now (corners .exit) ≡ ToldCrossing.corners (crossingOf ax ay bx by cx cy dx dy) (now (corners .entry)) ⌝ }
-    ensures { λ _. ⌜ now (place .exit) ≡ ToldCrossing.place (crossingOf ax ay bx by cx cy dx dy) (now (place .entry)) ⌝ }
+    ensures { λ r. ⌜ r ≡ ToldCrossing.refusal (crossingIn plain ax ay bx by cx cy dx dy) ⌝ }
+    ensures { λ _. ⌜ now (kind .exit) ≡ ToldCrossing.kind (crossingIn plain ax ay bx by cx cy dx dy) (now (kind .entry)) ⌝ }
+    ensures { λ _. ⌜ now (corners .exit) ≡ ToldCrossing.corners (crossingIn plain ax ay bx by cx cy dx dy) (now (corners .entry)) ⌝ }
+    ensures { λ _. ⌜ now (place .exit) ≡ ToldCrossing.place (crossingIn plain ax ay bx by cx cy dx dy) (now (place .entry)) ⌝ }
 {
-    match crossing::crossing(ax, ay, bx, by, cx, cy, dx, dy) {
-        Crossed::Refused(why) => {
-            *place = why.place;
-            why.number
-        }
-        Crossed::Found(found) => {
-            tell_crossing(found, kind, corners);
-            0
-        }
-    }
+    let crossed = crossing::crossing(crossing::PLAIN, ax, ay, bx, by, cx, cy, dx, dy);
+    tell_crossed(crossed, kind, corners, place)
+}
+
+// The same to the last bit however the two segments are named.
+#[no_mangle]
+pub extern "C" fn bezorika_crossing_ordered(
+    ax: f64,
+    ay: f64,
+    bx: f64,
+    by: f64,
+    cx: f64,
+    cy: f64,
+    dx: f64,
+    dy: f64,
+    kind: &mut u64,
+    corners: &mut [f64; 4],
+    place: &mut u64,
+) -> u64
+    ensures { λ r. ⌜ r ≡ ToldCrossing.refusal (crossingIn ordered ax ay bx by cx cy dx dy) ⌝ }
+    ensures { λ _. ⌜ now (kind .exit) ≡ ToldCrossing.kind (crossingIn ordered ax ay bx by cx cy dx dy) (now (kind .entry)) ⌝ }
+    ensures { λ _. ⌜ now (corners .exit) ≡ ToldCrossing.corners (crossingIn ordered ax ay bx by cx cy dx dy) (now (corners .entry)) ⌝ }
+    ensures { λ _. ⌜ now (place .exit) ≡ ToldCrossing.place (crossingIn ordered ax ay bx by cx cy dx dy) (now (place .entry)) ⌝ }
+{
+    let crossed = crossing::crossing(crossing::ORDERED, ax, ay, bx, by, cx, cy, dx, dy);
+    tell_crossed(crossed, kind, corners, place)
 }

@@ -1,5 +1,6 @@
--- Binary64 as a kind of coordinate, and the plain crossing on it.
+-- Binary64 as a kind of coordinate, and the crossing on it in each mode.
 use mathlib.Core.Bool.{Bool, not, _&&_}
+use Prim.Native.Nat.{ℕ}
 use lib.Ieee.{lt, eq}
 use Rattle.numbers.specs.Binary64.{unfit}
 use Rattle.numbers.specs.Next.{nextUp}
@@ -7,7 +8,7 @@ use Rattle.numbers.specs.declared.Coordinate.{Coordinate}
 use Rattle.orientation.specs.Orientation.{signedArea}
 use Rattle.crossing.specs.declared.LineIntersection.{LineIntersection}
 use Rattle.crossing.specs.declared.LineIntersection.the-variants.{None, Point, Overlap, Lost}
-use Rattle.crossing.specs.Crossing.{intersectionOf}
+use Rattle.crossing.specs.Crossing.{intersectionIn}
 use Rattle.events.specs.Coordinates.{Coordinates, Cross, none, lost, point, overlap, Crossing}
 
 unfoldable pub binary64 : Coordinates Coordinate
@@ -28,6 +29,6 @@ crossOf (Point p) = point p
 crossOf (Overlap p q) = overlap p q
 crossOf Lost = lost
 
--- the crossing as the source computes it
-unfoldable pub plain : Crossing Coordinate
-plain a1 a2 b1 b2 = crossOf (intersectionOf a1 a2 b1 b2)
+-- the crossing in a mode: `plain` as the source computes it, `ordered` whichever way the segments are named
+unfoldable pub inMode : ℕ → Crossing Coordinate
+inMode mode a1 a2 b1 b2 = crossOf (intersectionIn mode a1 a2 b1 b2)

@@ -4,8 +4,8 @@ use mathlib.Core.List.{List, [], _∷_}
 use Prim.Native.Nat.{ℕ, _*_}
 use lib.ListN.{length, getD}
 use lib.Dec.{eqb, ltb}
-use lib.Ieee.{Float, nan, eq}
-use Rattle.numbers.specs.Binary64.{zero}
+use lib.Ieee.{Float, nan}
+use Rattle.numbers.specs.Binary64.{unsigned}
 use Rattle.numbers.specs.declared.Coordinate.{Coordinate}
 use Rattle.events.specs.Binary64.{binary64}
 use Rattle.events.specs.Pool.{Pool, stored}
@@ -20,9 +20,6 @@ use Rattle.loading.specs.Loading.{Edge, loaded, checkedEdges}
 -- ---- the lent edges
 
 -- minus zero is stored as zero
-unfoldable pub unsigned : Float → Float
-unsigned x = cond (eq x zero) zero x
-
 unfoldable pub endOf : List Float → ℕ → ℕ → Coordinate
 endOf ends i j = record { x = unsigned (getD ends i nan); y = unsigned (getD ends j nan) }
 

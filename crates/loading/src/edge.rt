@@ -2,25 +2,15 @@
 ghost use mathlib.Core.Path.{_≡_};
 ghost use Prim.Native.Nat.{_<_};
 ghost use lib.ListN.{length};
-ghost use Rattle.loading.specs.OnPool as OnPool;
 ghost use Rattle.loading.specs.OnPool.{edgeOf, edgesOf, edgeAt, shownEdge};
 use numbers::Coordinate;
+use numbers::unsigned;
 
 pub struct Edge {
     pub subject: bool,
     pub ring: u32,
     pub from: Coordinate,
     pub to: Coordinate,
-}
-
-// Minus zero becomes zero.
-fn unsigned(x: f64) -> f64
-    ensures { λ r. ⌜ r ≡ OnPool.unsigned x ⌝ }
-{
-    if x == 0.0 {
-        return 0.0;
-    }
-    x
 }
 
 fn edge_of(e: [f64; 4], l: [u32; 2]) -> Edge

@@ -2,7 +2,7 @@
 ghost use mathlib.Core.Path.{_≡_};
 ghost use mathlib.Core.Bool.{cond};
 ghost use Rattle.events.specs.Coordinates.{point};
-ghost use Rattle.events.specs.Binary64.{binary64, plain, crossOf};
+ghost use Rattle.events.specs.Binary64.{binary64, crossOf};
 ghost use Rattle.events.specs.Pool.{pool, stored};
 ghost use Rattle.neighbours.specs.Step.{step};
 ghost use Rattle.neighbours.specs.Neighbours as Spec;
@@ -18,7 +18,6 @@ use crate::step::Stop;
 use crate::step::cut_unless;
 use crate::step::still;
 use crossing::LineIntersection;
-use crossing::intersection;
 use events::points::same_point;
 use events::pool::read_used;
 use numbers::Coordinate;

@@ -4,9 +4,13 @@ pub mod First
 pub mod Units
 pub mod Place
 pub mod OneWay
+pub mod Rising
 pub mod Patterns
 pub mod Next
+pub mod Equal
 pub mod NextSame
+pub mod SignOfZero
+pub mod LessUnsigned
 pub mod Rounding
 pub mod Between
 pub mod Subtraction

@@ -10,10 +10,9 @@ use lib.Dec.{T, leb, ltb, eqb}
 use lib.IntN.{ℤ, pos}
 use lib.Ieee.{Float, nan, inf, fin, binary64, isNan, fits, lt, le, neg, ofBits, toBits, nanBits}
 use lib.Ieee.Bits.{ofBits-toBits, toBits-ofBits, toBits-lt, nanBits-above}
-use Rattle.numbers.specs.Binary64.{notFinite}
+use Rattle.numbers.specs.Binary64.{Finite, notFinite}
 use Rattle.numbers.specs.Exact.{size, negative}
 use Rattle.numbers.specs.Next.{largest, leastPositive, nextPattern, nextUp}
-use Rattle.numbers.proofs.Units.{Finite}
 use Rattle.numbers.proofs.Place.{shift, place, size-most, lt-place, le-place}
 use Rattle.numbers.proofs.Patterns.{sizeOf, infinite, size-grows, size-keeps, size-none, pattern-finite, pattern-size, finite-pattern}
 

@@ -13,9 +13,8 @@ use lib.Ieee.{Float, nan, inf, fin, binary64, down, odd, ofFields, ofBits, toBit
 use lib.Ieee.Bits.{ofBits-toBits, ofBits-fits}
 use lib.Ieee.Exact.{HasValue, odd-sign}
 use lib.Ieee.Fits.{down-pos}
-use Rattle.numbers.specs.Binary64.{notFinite}
+use Rattle.numbers.specs.Binary64.{Finite, notFinite}
 use Rattle.numbers.specs.Exact.{size, negative}
-use Rattle.numbers.proofs.Units.{Finite}
 
 -- the size that an exponent's field and the digits stand for, in units of 2^-1074
 unfoldable pub sizeAt : ℕ → ℕ → ℕ

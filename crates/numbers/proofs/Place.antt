@@ -13,8 +13,9 @@ use lib.Ieee as I
 use lib.Ieee.{Float, nan, inf, fin, up, down, lt, eq, le}
 use lib.Ieee.Fits.{down-pos}
 use lib.Ieee.Exact.{HasValue}
+use Rattle.numbers.specs.Binary64.{Finite}
 use Rattle.numbers.specs.Exact.{size, negative}
-use Rattle.numbers.proofs.Units.{Finite, exact, size-below}
+use Rattle.numbers.proofs.Units.{exact, size-below}
 
 -- no finite number is below minus this many units
 unfoldable pub shift : ℕ
@@ -112,7 +113,7 @@ module _ (m n w : ℕ) (W : 0 < w) where
     level-units : (s t : Bool) → I.level s (a * up e * down d) t (b * up d * down e) ≡ I.level s m t n
     level-units s t = level-scaled w W s t (a * up e * down d) (b * up d * down e) ∙ rw (first, second) (sym (level-scaled common positive s t m n))
 
-  lt-units : (x y : Float) (s t : Bool) → HasValue x s m w → HasValue y t n w → lt x y ≡ I.below s m t n
+  pub lt-units : (x y : Float) (s t : Bool) → HasValue x s m w → HasValue y t n w → lt x y ≡ I.below s m t n
   unfolding lt
   lt-units nan y s t h k = absurd h
   lt-units (inf r) y s t h k = absurd h

@@ -11,9 +11,9 @@ use lib.Ieee.{Float, nan, inf, fin, binary64, up, down, round, sum, add, sub, ne
 use lib.Ieee.Fits.{down-pos}
 use lib.Ieee.Exact.{HasValue}
 use lib.Ieee.Scale.{round-same}
-use Rattle.numbers.specs.Binary64.{notFinite}
+use Rattle.numbers.specs.Binary64.{Finite, notFinite}
 use Rattle.numbers.specs.Exact.{size, negative}
-use Rattle.numbers.proofs.Units.{Finite, exact}
+use Rattle.numbers.proofs.Units.{exact}
 use Rattle.numbers.proofs.Place.{place, place-is}
 use Rattle.numbers.proofs.Rounding.{Near, whole-near}
 

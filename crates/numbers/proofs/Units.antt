@@ -10,13 +10,8 @@ use lib.IntN.{ℤ, pos, negsuc}
 use lib.Ieee.{Float, nan, inf, fin, binary64, up, down, fits, lt, le, eq, neg, ofBits}
 use lib.Ieee.Fits.{down-pos, and-l, and-r}
 use lib.Ieee.Exact.{HasValue}
-use Rattle.numbers.specs.Binary64.{notFinite, unfit, limit}
+use Rattle.numbers.specs.Binary64.{Finite, notFinite, unfit, limit}
 use Rattle.numbers.specs.Exact.{size, negative}
-
--- A finite binary64 number: `Float` has others, which no machine word holds.
-pub record Finite (x : Float) : Type 0 where
-  pub held : T (fits binary64 x)
-  pub finite : notFinite x ≡ false
 
 -- what refusal 2 passes is finite
 abbrev within : Float → Bool

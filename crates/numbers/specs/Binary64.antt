@@ -1,8 +1,10 @@
 -- Numbers are binary64, IEEE 754, nearest, ties to even: values and operators are the toolchain's `lib.Ieee`. Here stands what 01 adds to them.
+use mathlib.Core.Path.{_≡_}
 use mathlib.Core.Bool.{Bool, true, false, not, cond}
 use mathlib.Core.List.{List, [], _∷_}
 use Prim.Native.Nat.{ℕ, suc}
-use lib.Ieee.{Float, nan, inf, fin, binary64, lt, le, ne, neg, fits, ofBits}
+use lib.Dec.{T}
+use lib.Ieee.{Float, nan, inf, fin, binary64, lt, le, eq, ne, neg, fits, ofBits}
 
 -- 0.0 and 1.0, by their bits
 abbrev pub zero : Float
@@ -11,10 +13,23 @@ zero = ofBits binary64 0
 abbrev pub one : Float
 one = ofBits binary64 0x3ff0_0000_0000_0000
 
+-- minus zero becomes zero, every other number stays
+unfoldable pub unsigned : Float → Float
+unsigned x = cond (eq x zero) zero x
+
 unfoldable pub notFinite : Float → Bool
 notFinite nan = true
 notFinite (inf s) = true
 notFinite (fin s m e) = false
+
+-- a machine word holds it: `Float` has other numbers too
+abbrev pub Held : Float → Type 0
+Held x = T (fits binary64 x)
+
+-- a finite binary64 number
+pub record Finite (x : Float) : Type 0 where
+  pub held : Held x
+  pub finite : notFinite x ≡ false
 
 -- the place of the first number that is not finite, counted from 0; the length where all are finite
 unfoldable pub firstNotFinite : List Float → ℕ

@@ -1,4 +1,5 @@
--- What a number is: binary64 as a machine computes with it, the whole number that it stands for, and the next one up.
+-- What a number is: binary64 as a machine computes with it, the whole number that it stands for, the next one up, and points of two numbers.
 pub mod Binary64
 pub mod Exact
 pub mod Next
+pub mod Points

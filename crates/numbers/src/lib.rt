@@ -1,10 +1,12 @@
 // Binary64 numbers and the plain structs of them (`helper.rs`).
 ghost use mathlib.Core.Path.{_≡_};
-ghost use Rattle.numbers.specs.Binary64.{notFinite, firstNotFinite, unfit, minimum, maximum};
+ghost use Rattle.numbers.specs.Binary64.{unsigned as unsignedOf, notFinite, firstNotFinite, unfit, minimum, maximum};
 ghost use Rattle.numbers.specs.Next.{nextPattern, nextUp};
 
 // 2^1023: a number that lies between its negative and it is finite.
 pub const HUGE: f64 = 8.98846567431158e307;
+
+pub mod points;
 
 // The pattern of minus zero.
 const MINUS_ZERO: u64 = 0x8000_0000_0000_0000;
@@ -17,6 +19,16 @@ pub struct Coordinate {
 pub struct BoundingBox {
     pub min: Coordinate,
     pub max: Coordinate,
+}
+
+// Minus zero becomes zero.
+pub fn unsigned(x: f64) -> f64
+    ensures { λ r. ⌜ r ≡ unsignedOf x ⌝ }
+{
+    if x == 0.0 {
+        return 0.0;
+    }
+    x
 }
 
 pub fn not_finite(x: f64) -> bool

@@ -6,10 +6,10 @@ use Prim.Native.Nat.{ℕ, _+_, _*_, _<_}
 use native.Mathlib.Omega.{arith}
 use lib.IntN.{ℤ, _-ℤ_}
 use lib.Ieee.{Float}
-use Rattle.numbers.specs.Binary64.{unfit}
+use Rattle.numbers.specs.Binary64.{Finite, unfit}
 use Rattle.numbers.specs.Exact.{whole}
 use Rattle.numbers.specs.declared.Coordinate.{Coordinate}
-use Rattle.numbers.proofs.Units.{Finite, fit-finite}
+use Rattle.numbers.proofs.Units.{fit-finite}
 use Rattle.numbers.proofs.Place as N
 use Rattle.numbers.proofs.Place.{shift, lt-place, eq-place, place-is}
 use Rattle.orientation.specs.Orientation.{signOf, signedArea}

@@ -12,9 +12,8 @@ use lib.IntN.{ℤ, _-ℤ_, _*ℤ_}
 use lib.Ieee.{Float, nan, inf, fin, binary64, odd, sub, mul, neg, lt, eq, fits, ofBits, ofFields}
 use lib.Ieee.Fits.{sub-fits}
 use Rattle.numbers.specs.Binary64 as Binary64
-use Rattle.numbers.specs.Binary64.{notFinite, huge}
+use Rattle.numbers.specs.Binary64.{Finite, notFinite, huge}
 use Rattle.numbers.specs.Exact.{size, negative, whole}
-use Rattle.numbers.proofs.Units.{Finite}
 use Rattle.numbers.proofs.Place.{place, shift, place-is, lt-place, eq-place}
 use Rattle.numbers.proofs.Between.{strictly-between, sub-finite}
 use Rattle.numbers.proofs.Rounding.{near-none}

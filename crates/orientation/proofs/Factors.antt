@@ -10,9 +10,8 @@ use lib.Dec.{T, lit≤, lit<}
 use lib.IntN.{ℤ, _-ℤ_, _*ℤ_}
 use lib.Ieee.{Float, inf, binary64, unlike, odd, sub, mul, lt, fits, ofBits, ofFields}
 use lib.Ieee.Fits.{sub-fits, mul-fits}
-use Rattle.numbers.specs.Binary64.{notFinite}
+use Rattle.numbers.specs.Binary64.{Finite, notFinite}
 use Rattle.numbers.specs.Exact.{size, negative, whole}
-use Rattle.numbers.proofs.Units.{Finite}
 use Rattle.numbers.proofs.Place.{place-is}
 use Rattle.numbers.proofs.Between.{not-below, not-above, sub-finite, mul-finite}
 use Rattle.numbers.proofs.Rounding.{Near, none-near, Rounded}

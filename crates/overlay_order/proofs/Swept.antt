@@ -9,7 +9,8 @@ use lib.ListN.{length, take, length-map}
 use lib.Seq.{length-sets}
 use Rattle.lists.proofs.Fronts.{first-are}
 use Rattle.refusals.specs.declared.Refusal.{Refusal}
-use Rattle.events.specs.Binary64.{binary64, plain}
+use Rattle.crossing.specs.Modes.{ordered}
+use Rattle.events.specs.Binary64.{binary64, inMode}
 use Rattle.events.specs.Pool.{Pool, pool, size, stored}
 use Rattle.events.proofs.Stored.{pool-stored}
 use Rattle.class.specs.declared.Operation.{Operation}
@@ -40,11 +41,11 @@ use Rattle.overlay_order.proofs.Renumbered.{connected-alike}
 
 module _ (op : Operation) (p : Pool) (n : ℕ) (taken : List ℕ) where
   abbrev swept : Sweeps.After
-  swept = subdividePool op p n taken
+  swept = subdividePool op ordered p n taken
 
   size-kept : (x : Check) → accept p n taken ≡ x → stored .size (swept .pool) ≡ stored .size p
   unfolding subdividePool afterChecks afterRun asLent
-  size-kept Passed h = rw h (counted binary64 stored pool-stored plain op p n .grows .size)
+  size-kept Passed h = rw h (counted binary64 stored pool-stored (inMode ordered) op p n .grows .size)
   size-kept (Struck r) h = rw h
 
   fits : swept .answer .outcome ≡ Sweeping.Done → swept .answer .used ≤ stored .size (swept .pool)
@@ -60,12 +61,12 @@ module _ (op : Operation) (p : Pool) (n : ℕ) (taken : List ℕ) where
 
 -- ---- two sweeps
 
-module _ (op : Operation) (n : ℕ) (ρ : Renaming n) (p p′ : Pool) (lent : List ℕ) (h : SameAfter (ρ .to) p lent (subdividePool op p n lent) p′ lent (subdividePool op p′ n lent)) where
+module _ (op : Operation) (n : ℕ) (ρ : Renaming n) (p p′ : Pool) (lent : List ℕ) (h : SameAfter (ρ .to) p lent (subdividePool op ordered p n lent) p′ lent (subdividePool op ordered p′ n lent)) where
   abbrev a : Sweeps.After
-  a = subdividePool op p n lent
+  a = subdividePool op ordered p n lent
 
   abbrev a′ : Sweeps.After
-  a′ = subdividePool op p′ n lent
+  a′ = subdividePool op ordered p′ n lent
 
   same-used : a′ .answer .used ≡ a .answer .used
   unfolding renameSwept
@@ -101,7 +102,7 @@ module _ (op : Operation) (n : ℕ) (ρ : Renaming n) (p p′ : Pool) (lent : Li
   unfolding overlayTaken
   done-alike d =
       let d′ : a′ .answer .outcome ≡ Sweeping.Done = same-end ∙ renamed-done (a .answer .outcome) d in
-      let n-in : n ≤ a .answer .used = omega (arith, used-counted op p n lent) in
+      let n-in : n ≤ a .answer .used = omega (arith, used-counted op ordered p n lent) in
       let p₁ : a .answer .used ≤ length (a′ .pool .points) = omega (arith, same-used, points-fit op p′ n lent d′) in
       let m₁ : a .answer .used ≤ length (a′ .pool .marks) = omega (arith, same-used, marks-fit op p′ n lent d′) in
       rw (listed, listed′, same-used)
@@ -130,11 +131,11 @@ unfolding noPoints noneTaken
 all-long = (refl, refl)
 
 module _ (op : Operation) (ends : List (List Float)) (labels : List (List ℕ)) (ends′ : List (List Float)) (labels′ : List (List ℕ)) (o : Reordered ends labels ends′ labels′)
-    (n : ℕ) (d : load ends labels start .answer ≡ Loading.Done n) (u : subdividePool op (load ends labels start .pool) n none .answer .tied ≡ false) where
-  free : OrderFreeCalls op n ends labels start none ends′ labels′ start none
+    (n : ℕ) (d : load ends labels start .answer ≡ Loading.Done n) (u : subdividePool op ordered (load ends labels start .pool) n none .answer .tied ≡ false) where
+  free : OrderFreeCalls op ordered n ends labels start none ends′ labels′ start none
   free =
       let k : length none ≡ length (start .points) = all-long .1 ∙ sym (all-long .0) in
-      order-of-loading op ends labels start none ends′ labels′ start none o (record { points = refl; marks = refl; takes = k; takes′ = k }) n d u
+      order-of-loading op ordered ends labels start none ends′ labels′ start none o (record { points = refl; marks = refl; takes = k; takes′ = k }) n d u
 
   pub loaded-alike : SameWork (overlayEdges op ends labels) (overlayEdges op ends′ labels′)
   unfolding overlayEdges overlayEdgesIn afterLoading loadedTo

@@ -7,6 +7,7 @@ use lib.Ieee.{Float}
 use Rattle.refusals.specs.declared.Refusal.{Refusal}
 use Rattle.loading.specs.declared.Loaded.the-variants.{Done}
 use Rattle.loading.specs.OnPool.{load}
+use Rattle.crossing.specs.Modes.{ordered}
 use Rattle.sweep.specs.OnPool.{subdividePool}
 use Rattle.sheet.specs.Sheet.{Sheet}
 use Rattle.sheet.specs.Stored.{endsOf, labelsOf}
@@ -33,4 +34,4 @@ pub data SameWork : Work → Work → Type 0 where
 pub record Untied (s : Sheet) : Type 0 where
   pub n : ℕ
   pub loads : load (endsIn s) (labelsIn s) (emptyPool poolPlaces) .answer ≡ Done n
-  pub untied : subdividePool (s .operation) (load (endsIn s) (labelsIn s) (emptyPool poolPlaces) .pool) n (noneTaken poolPlaces) .answer .tied ≡ false
+  pub untied : subdividePool (s .operation) ordered (load (endsIn s) (labelsIn s) (emptyPool poolPlaces) .pool) n (noneTaken poolPlaces) .answer .tied ≡ false

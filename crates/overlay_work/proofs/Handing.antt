@@ -11,7 +11,8 @@ use lib.Ieee.{Float}
 use lib.ListN.{length, take, length-take}
 use lib.Seq.{sets}
 use Rattle.refusals.specs.declared.Refusal.{Refusal}
-use Rattle.events.specs.Binary64.{binary64, plain}
+use Rattle.crossing.specs.Modes as Modes
+use Rattle.events.specs.Binary64.{binary64, inMode}
 use Rattle.events.specs.Pool.{Pool, pool, size, stored}
 use Rattle.events.proofs.Stored.{pool-stored}
 use Rattle.class.specs.declared.Operation.{Operation}
@@ -101,9 +102,9 @@ module _ (out : List ℕ) (s : Swept) (p : Pool) (taken : List ℕ) (x : Sweeps.
 -- the events counted are within the taken list
 module _ (op : Operation) (p : Pool) (n : ℕ) (lent : List ℕ) where
   abbrev swept : Sweeps.After
-  swept = subdividePool op p n lent
+  swept = subdividePool op Modes.ordered p n lent
 
-  counted : accept p n lent ≡ Passed → swept .answer .taken ≡ length (subdivide binary64 stored plain op p n .taken)
+  counted : accept p n lent ≡ Passed → swept .answer .taken ≡ length (subdivide binary64 stored (inMode Modes.ordered) op p n .taken)
   unfolding subdividePool afterChecks afterRun answerOf
   counted h = rw h
 
@@ -112,7 +113,7 @@ module _ (op : Operation) (p : Pool) (n : ℕ) (lent : List ℕ) where
   none-counted r h = rw h
 
   counted-within : (x : Check) → accept p n lent ≡ x → swept .answer .taken ≤ length (swept .taken)
-  counted-within Passed h = omega (arith, counted h, ap length (events-counted op p n lent h), length-take (swept .answer .taken) (swept .taken))
+  counted-within Passed h = omega (arith, counted h, ap length (events-counted op Modes.ordered p n lent h), length-take (swept .answer .taken) (swept .taken))
   counted-within (Struck r) h = omega (arith, none-counted r h)
 
   pub taken-within : (s : Swept) (q : Pool) (taken : List ℕ) → Sweeps.after s q taken ≡ swept → s .taken ≤ length taken
@@ -138,7 +139,7 @@ module _ (op : Operation) (p : Pool) (n : ℕ) (lent : List ℕ) where
       let a = sizes-fit (length (p .points)) (length (p .marks)) (length lent) (both-passed (sizes (length (p .points)) (length (p .marks)) (length lent) n) _ h .0) in
       omega (arith, a, places-are p (accepted p n lent h .0))
 
-  used-is : accept p n lent ≡ Passed → swept .answer .used ≡ subdivide binary64 stored plain op p n .used
+  used-is : accept p n lent ≡ Passed → swept .answer .used ≡ subdivide binary64 stored (inMode Modes.ordered) op p n .used
   unfolding subdividePool afterChecks afterRun answerOf
   used-is h = rw h
 
@@ -150,7 +151,7 @@ module _ (op : Operation) (p : Pool) (n : ℕ) (lent : List ℕ) where
   not-both o r d e = let z : _≡_ {A = ℕ} 0 1 = cc in omega arith
 
   used-fit : (x : Check) → accept p n lent ≡ x → swept .answer .outcome ≡ Sweeping.Done → swept .answer .used ≤ stored .size p
-  used-fit Passed h d = omega (arith, used-is h, used-within binary64 stored pool-stored plain op p n (loaded-fit h))
+  used-fit Passed h d = omega (arith, used-is h, used-within binary64 stored pool-stored (inMode Modes.ordered) op p n (loaded-fit h))
   used-fit (Struck r) h d = absurd (not-both _ r d (refused-is r h))
 
   module _ (s : Swept) (q : Pool) (taken : List ℕ) (e : Sweeps.after s q taken ≡ swept) (d : s .outcome ≡ Sweeping.Done) where
@@ -178,7 +179,7 @@ module _ (out : List ℕ) (o : Operation) (taken : List ℕ) (a : Loaded) (p : P
   unfolding loadedTo put
   unloaded r f = loaded-is (Loading.Refused r) f
 
-  pub loaded-on : (y : After) (n : ℕ) → a ≡ Loading.Done n → y ≡ put (afterSweep (subdividePool o p n taken)) out → y ≡ put (afterLoading o taken x) out
+  pub loaded-on : (y : After) (n : ℕ) → a ≡ Loading.Done n → y ≡ put (afterSweep (subdividePool o Modes.ordered p n taken)) out → y ≡ put (afterLoading o taken x) out
   unfolding loadedTo
   loaded-on y n f g = g ∙ loaded-is (Loading.Done n) f
 

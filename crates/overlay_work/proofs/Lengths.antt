@@ -14,7 +14,8 @@ use lib.ListN.{length, take, length-take}
 use lib.Seq.{sets, length-sets}
 use Rattle.refusals.specs.declared.Refusal.{Refusal}
 use Rattle.numbers.specs.declared.Coordinate.{Coordinate}
-use Rattle.events.specs.Binary64.{binary64, plain}
+use Rattle.crossing.specs.Modes as Modes
+use Rattle.events.specs.Binary64.{binary64, inMode}
 use Rattle.events.specs.Pool.{Pool, stored}
 use Rattle.class.specs.declared.Operation.{Operation}
 use Rattle.checks.specs.declared.Check.{Check}
@@ -85,20 +86,20 @@ module _ (p : Pool) (list : List ℕ) (few : length list ≤ poolPlaces) where
 
 -- ---- the steps before it
 
-taken-places : (o : Operation) (p : Pool) (n : ℕ) (l : List ℕ) → length (subdividePool o p n l .taken) ≡ length l
+taken-places : (o : Operation) (p : Pool) (n : ℕ) (l : List ℕ) → length (subdividePool o Modes.ordered p n l .taken) ≡ length l
 unfolding subdividePool afterChecks afterRun asLent
 taken-places o p n l = go (accept p n l)
   where
-    go : (x : Check) → length (afterChecks x o p n l .taken) ≡ length l
-    go Passed = length-sets l 0 (subdivide binary64 stored plain o p n .taken)
+    go : (x : Check) → length (afterChecks x o Modes.ordered p n l .taken) ≡ length l
+    go Passed = length-sets l 0 (subdivide binary64 stored (inMode Modes.ordered) o p n .taken)
     go (Struck r) = refl
 
-fair-swept : (o : Operation) (p : Pool) (n : ℕ) → Fair (afterSweep (subdividePool o p n (noneTaken poolPlaces)))
+fair-swept : (o : Operation) (p : Pool) (n : ℕ) → Fair (afterSweep (subdividePool o Modes.ordered p n (noneTaken poolPlaces)))
 unfolding afterSweep sweptTo
 fair-swept o p n = go (x .answer .outcome) refl
   where
     x : Sweeps.After
-    x = subdividePool o p n (noneTaken poolPlaces)
+    x = subdividePool o Modes.ordered p n (noneTaken poolPlaces)
 
     go : (y : Sweep.Outcome) → x .answer .outcome ≡ y → Fair (sweptTo y (firstPlaces (x .answer .used) (x .pool)) (take (x .answer .taken) (x .taken)))
     go Sweeping.Done e = fair-taken _ _ (omega (arith, length-take (x .answer .taken) (x .taken), taken-places o p n (noneTaken poolPlaces), taken-room poolPlaces))

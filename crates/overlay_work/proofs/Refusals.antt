@@ -25,6 +25,7 @@ use Rattle.loading.specs.Loading.{Edge, checkedEdge, checkedEdges}
 use Rattle.loading.specs.OnPool.{maxEdges, edgesSized, poolSized, load}
 use Rattle.loading.specs.OnPool as Loads
 use Rattle.sweep.specs.declared.Outcome.the-variants as Sweeping
+use Rattle.crossing.specs.Modes as Modes
 use Rattle.sweep.specs.OnPool.{subdividePool}
 use Rattle.sweep.proofs.Refusals.{Known, told-by}
 use Rattle.contours.specs.Result.{ordered}
@@ -125,8 +126,8 @@ known-by r (inl (inr (inr e))) = omega arith
 known-by r (inr (inl e)) = omega arith
 known-by r (inr (inr e)) = omega arith
 
-pub sweep-by : (o : Operation) (p : Pool) (n : ℕ) (lent : List ℕ) (r : Refusal) → subdividePool o p n lent .answer .outcome ≡ Sweeping.Refused r → r .number ≢ 5
-sweep-by o p n lent r e = known-by r (told-by o p n lent r e)
+pub sweep-by : (o : Operation) (p : Pool) (n : ℕ) (lent : List ℕ) (r : Refusal) → subdividePool o Modes.ordered p n lent .answer .outcome ≡ Sweeping.Refused r → r .number ≢ 5
+sweep-by o p n lent r e = known-by r (told-by o Modes.ordered p n lent r e)
 
 -- ---- connection, once its checks have passed
 

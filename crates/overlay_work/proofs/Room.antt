@@ -23,6 +23,7 @@ use Rattle.loading.proofs.Edges.{length-edges}
 use Rattle.loading.proofs.Kept.{points-kept, marks-kept}
 use Rattle.sweep.specs.declared.Outcome as Sweep
 use Rattle.sweep.specs.declared.Outcome.the-variants as Sweeping
+use Rattle.crossing.specs.Modes.{ordered}
 use Rattle.sweep.specs.OnPool.{subdividePool}
 use Rattle.sweep.specs.OnPool as Sweeps
 use Rattle.sweep_room.specs.Room.{firstPlaces, Larger, wantsRoom, firstOfLoaded, firstOfSwept}
@@ -54,10 +55,10 @@ stoppedFull (Stopped r) = eqb (r .number) 6
 
 module _ (o : Operation) (n : ℕ) (p : Pool) (k : ℕ) (taken : List ℕ) (larger : Larger n p taken) (few : k ≤ n) where
   abbrev small : Sweeps.After
-  small = subdividePool o (firstPlaces n p) k (take n taken)
+  small = subdividePool o ordered (firstPlaces n p) k (take n taken)
 
   abbrev large : Sweeps.After
-  large = subdividePool o p k taken
+  large = subdividePool o ordered p k taken
 
   not-full : stoppedFull (afterSweep small) ≡ false → wantsRoom (small .answer .outcome) ≡ false
   unfolding afterSweep sweptTo wantsRoom
@@ -97,7 +98,7 @@ module _ (o : Operation) (n : ℕ) (p : Pool) (k : ℕ) (taken : List ℕ) (larg
     same-after = ap afterSweep e ∙ same-places (large .answer .outcome) refl
 
   swept-room : stoppedFull (afterSweep small) ≡ false → afterSweep small ≡ afterSweep large
-  swept-room h = same-after (sweep-room o n p k taken larger few (not-full h))
+  swept-room h = same-after (sweep-room o ordered n p k taken larger few (not-full h))
 
 -- ---- both, from empty places
 

@@ -23,6 +23,7 @@ use Rattle.loading.specs.OnPool.{load}
 use Rattle.loading.specs.OnPool as Loads
 use Rattle.sweep.specs.declared.Outcome as Swept
 use Rattle.sweep.specs.declared.Outcome.the-variants as Sweeping
+use Rattle.crossing.specs.Modes.{ordered}
 use Rattle.sweep.specs.OnPool.{subdividePool}
 use Rattle.sweep.specs.OnPool as Sweeps
 use Rattle.sweep_room.specs.Room.{firstPlaces}
@@ -105,7 +106,7 @@ unfoldable pub afterSweep : Sweeps.After → Work
 afterSweep x = sweptTo (x .answer .outcome) (firstPlaces (x .answer .used) (x .pool)) (take (x .answer .taken) (x .taken))
 
 unfoldable pub loadedTo : Operation → List ℕ → Loaded → Pool → Work
-loadedTo o taken (Loading.Done n) p = afterSweep (subdividePool o p n taken)
+loadedTo o taken (Loading.Done n) p = afterSweep (subdividePool o ordered p n taken)
 loadedTo o taken (Loading.Refused r) p = Stopped r
 
 unfoldable pub afterLoading : Operation → List ℕ → Loads.After → Work

@@ -1,5 +1,6 @@
 // The steps after reading, from the last to the first. Each hands on what refuses it.
 ghost use mathlib.Core.Path.{_≡_};
+ghost use Rattle.crossing.specs.Modes.{ordered};
 ghost use Rattle.events.specs.Pool.{pool};
 ghost use Rattle.loading.specs.OnPool as Loads;
 ghost use Rattle.sweep.specs.OnPool.{subdividePool};
@@ -16,6 +17,7 @@ use crate::places::no_points;
 use checks::sizes::FEW;
 use class::Operation;
 use connection::connect_edges;
+use crossing::ORDERED;
 use loading::Loaded;
 use loading::load;
 use printing::print_contours;
@@ -133,9 +135,9 @@ fn sweep_loaded(
     taken: &mut [u32],
     out: &mut [u8],
 ) -> Overlaid
-    ensures { λ r. ⌜ left r (now (out .exit)) ≡ put (afterSweep (subdividePool operation (pool (now (points .entry)) (now (marks .entry))) loaded (now (taken .entry)))) (now (out .entry)) ⌝ }
+    ensures { λ r. ⌜ left r (now (out .exit)) ≡ put (afterSweep (subdividePool operation ordered (pool (now (points .entry)) (now (marks .entry))) loaded (now (taken .entry)))) (now (out .entry)) ⌝ }
 {
-    let swept = subdivide(points, marks, loaded, operation, taken);
+    let swept = subdivide(points, marks, loaded, operation, ORDERED, taken);
     let outcome = swept.outcome;
     match outcome {
         sweep::Outcome::Refused(refusal) => Overlaid::Refused(refusal),

@@ -32,14 +32,14 @@ beforeBy Passed told = BeforeTold told
 unfoldable pub isBefore : Pool → ℕ → ℕ → Before
 isBefore p a b = beforeBy (checkedNamed p (a ∷ b ∷ [])) (before binary64 (keyAt p a) (keyAt p b))
 
--- ---- segment order of two left records
+-- ---- segment order of two left records, in a mode of crossing
 
 abbrev pub comparedBy : Check → Ordering → Compared
 comparedBy (Refused x) told = ComparedRefused x
 comparedBy Passed told = ComparedTold told
 
-unfoldable pub compareSegments : Pool → ℕ → ℕ → Compared
-compareSegments p a b = comparedBy (checkedLeftNamed p (a ∷ b ∷ [])) (compareAt p a b)
+unfoldable pub compareSegments : (mode : ℕ) → Pool → ℕ → ℕ → Compared
+compareSegments mode p a b = comparedBy (checkedLeftNamed p (a ∷ b ∷ [])) (compareAt mode p a b)
 
 -- ---- the class of a left record above a left record, or above nothing
 

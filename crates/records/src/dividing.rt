@@ -35,14 +35,15 @@ pub fn possible_intersection(
     used: u32,
     a: u32,
     b: u32,
+    mode: u32,
 ) -> Neighbours
-    ensures { λ r. ⌜ meeting (pool (now (points .exit)) (now (marks .exit))) (r .used) (r .met) ≡ possibleIntersection (pool (now (points .entry)) (now (marks .entry))) used a b ⌝ }
+    ensures { λ r. ⌜ meeting (pool (now (points .exit)) (now (marks .exit))) (r .used) (r .met) ≡ possibleIntersection mode (pool (now (points .entry)) (now (marks .entry))) used a b ⌝ }
 {
     match check_left_two_in(points, marks, used, a, b) {
         Check::Refused(refusal) => Neighbours {
             used: used,
             met: Met::Refused(refusal),
         },
-        Check::Passed => neighbours::possible_intersection(points, marks, used, a, b),
+        Check::Passed => neighbours::possible_intersection(points, marks, used, a, b, mode),
     }
 }

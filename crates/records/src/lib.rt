@@ -39,12 +39,18 @@ pub enum Compared {
 }
 
 // Where the segment of left record a stands to that of left record b.
-pub fn compare_segments(points: &[[f64; 2]], marks: &[[u32; 12]], a: u32, b: u32) -> Compared
-    ensures { λ r. ⌜ r ≡ compareSegments (pool (now (points .entry)) (now (marks .entry))) a b ⌝ }
+pub fn compare_segments(
+    points: &[[f64; 2]],
+    marks: &[[u32; 12]],
+    a: u32,
+    b: u32,
+    mode: u32,
+) -> Compared
+    ensures { λ r. ⌜ r ≡ compareSegments mode (pool (now (points .entry)) (now (marks .entry))) a b ⌝ }
 {
     match check_left_two(points, marks, a, b) {
         Check::Refused(refusal) => Compared::Refused(refusal),
-        Check::Passed => Compared::Told(compare_segments_at(points, marks, a, b)),
+        Check::Passed => Compared::Told(compare_segments_at(points, marks, a, b, mode)),
     }
 }
 

@@ -1,5 +1,6 @@
 // What each entry tells, written.
 use class::Operation;
+use crossing::PLAIN;
 use events::Link;
 use records::Before;
 use records::Compared;
@@ -34,7 +35,7 @@ fn before(points: &[[f64; 2]], marks: &[[u32; 12]], a: u32, b: u32) {
 
 fn segments(points: &[[f64; 2]], marks: &[[u32; 12]], a: u32, b: u32) {
     say(b", segments ");
-    match records::compare_segments(points, marks, a, b) {
+    match records::compare_segments(points, marks, a, b, PLAIN) {
         Compared::Refused(refusal) => refused(refusal),
         Compared::Told(order) => match order {
             Ordering::Less => say(b"less"),

@@ -2,21 +2,21 @@
 -- and no crossing says otherwise.
 use mathlib.Core.Path.{_≡_, refl, sym, _∙_}
 use mathlib.Core.Bool.{Bool, true, false, cond, _&&_, Bool·beq, false≢true, true≢false}
-use Prim.Native.Nat.{_≤_}
+use Prim.Native.Nat.{ℕ, _≤_}
 use borrow.Author.Tests.{ltb-true, leb-true, le-ltb}
 use lib.Dec.{T}
 use lib.Ieee as I
 use lib.Ieee.{Float, nan, inf, fin, lt, le, eq, fits}
-use Rattle.numbers.specs.Binary64.{notFinite}
+use Rattle.numbers.specs.Binary64.{Finite, notFinite}
 use Rattle.numbers.specs.declared.Coordinate.{Coordinate}
-use Rattle.numbers.proofs.Units.{Finite}
 use Rattle.numbers.proofs.Place.{place, lt-place, le-place}
 use Rattle.numbers.proofs.Between.{strictly-between}
+use Rattle.numbers.proofs.Rising.{Rising, less, not-less, not-level, not-level-turned}
 use Rattle.orientation.specs.declared.Sign.{Sign}
 use Rattle.orientation.specs.declared.Sign.the-variants.{Negative, Positive}
 use Rattle.orientation.specs.Orientation.{signedArea}
 use Rattle.events.specs.Coordinates.{same, none}
-use Rattle.events.specs.Binary64.{binary64, plain}
+use Rattle.events.specs.Binary64.{binary64, inMode}
 use Rattle.events.specs.Event.{Key}
 use Rattle.order.specs.Order.{byNumber, before, isZero}
 use Rattle.order.proofs.Steps.{sign-positive, sign-negative}
@@ -27,7 +27,7 @@ use Rattle.segments.specs.declared.Ordering.the-variants.{Less, Greater}
 use Rattle.segments.specs.Segments.{isPositive, lessIfInversed, byCrossing, apart, oldBelow, compareSegments}
 use Rattle.segments.specs.Quick.{beside, belowBoth, under}
 use Rattle.segments.proofs.Heights as Heights
-use Rattle.segments.proofs.Boxes.{Rising, less, not-less, not-level, not-level-turned, Apart-in-y, crossing-above, crossing-below}
+use Rattle.segments.proofs.Boxes.{Apart-in-y, crossing-above, crossing-below}
 
 -- the four numbers of a key are binary64's, whatever else they are
 pub record Held (k : Key Coordinate) : Type 0 where
@@ -96,25 +96,13 @@ module _ (low high : Key Coordinate) (L : Held low) (H : Held high) where
       let d : Finite (high .mate .y) = record { held = H .mate-y; finite = strictly-between _ _ _ (s .0) (three .1) } in
       record { a-c = rising a c (p .0); a-d = rising a d (q .0); b-c = rising b c (r .0); b-d = rising b d (s .0) }
 
--- ---- the sign of the newer one's left end, and the crossing, decide
+-- a test that makes no difference
 alike : (t u : Bool) → cond t u u ≡ u
 alike true u = refl
 alike false u = refl
 
--- at one x the heights of the left ends say what the sign says
-one-x : (t u v : Bool) → cond (t && false) v (cond t u u) ≡ u
-one-x true u v = refl
-one-x false u v = refl
-
+-- ---- where the newer one's left end lies, and that it is the newer one
 module _ (old new : Key Coordinate) (b : Beside (old .point .x) (new .point .x) (old .mate .x)) where
-  decided : (s : Sign) → isZero s ≡ false → signedArea (old .point) (old .mate) (new .point) ≡ s
-      → plain (old .point) (old .mate) (new .point) (new .mate) ≡ none
-      → eq (old .point .y) (new .point .y) ≡ false → lt (old .point .y) (new .point .y) ≡ isPositive s → oldBelow binary64 plain old new ≡ isPositive s
-  unfolding oldBelow apart same byCrossing binary64
-  decided s z turn cross level rise =
-      let right = isPositive (signedArea (old .point) (old .mate) (new .mate)) in
-      rw (turn, z, level, rise, cross, alike (Bool·beq (isPositive s) right) (isPositive s)) (one-x (eq (old .point .x) (new .point .x)) (isPositive s) right)
-
   left-turn : Apart-in-y (old .point .y) (old .mate .y) (new .point .y) (new .mate .y) → signedArea (old .point) (old .mate) (new .point) ≡ Positive
   unfolding plus minus AtBinary64.place
   left-turn r =
@@ -139,24 +127,40 @@ module _ (old new : Key Coordinate) (b : Beside (old .point .x) (new .point .x) 
   unfolding before byNumber binary64
   newer t = rw (not-earlier, t)
 
+-- ---- the answers, in every mode: the sign of the newer one's left end decides, for there is no crossing
+
+-- at one x the heights of the left ends say what the sign says
+one-x : (t u v : Bool) → cond (t && false) v (cond t u u) ≡ u
+one-x true u v = refl
+one-x false u v = refl
+
+module _ (mode : ℕ) (old new : Key Coordinate) where
+  decided : (s : Sign) → isZero s ≡ false → signedArea (old .point) (old .mate) (new .point) ≡ s
+      → inMode mode (old .point) (old .mate) (new .point) (new .mate) ≡ none
+      → eq (old .point .y) (new .point .y) ≡ false → lt (old .point .y) (new .point .y) ≡ isPositive s → oldBelow binary64 (inMode mode) old new ≡ isPositive s
+  unfolding oldBelow apart same byCrossing binary64
+  decided s z turn cross level rise =
+      let right = isPositive (signedArea (old .point) (old .mate) (new .mate)) in
+      rw (turn, z, level, rise, cross, alike (Bool·beq (isPositive s) right) (isPositive s)) (one-x (eq (old .point .x) (new .point .x)) (isPositive s) right)
+
   -- .. however it is known where the numbers stand
-  pub lies-above : Apart-in-y (old .point .y) (old .mate .y) (new .point .y) (new .mate .y) → compareSegments binary64 plain new old ≡ Greater
-  unfolding compareSegments lessIfInversed isPositive isZero
-  lies-above r =
-      let cross = crossing-above (old .point) (old .mate) (new .point) (new .mate) r in
-      rw (newer-above (r .a-c), decided Positive refl (left-turn r) cross (not-level (r .a-c)) (less (r .a-c)))
+  module _ (b : Beside (old .point .x) (new .point .x) (old .mate .x)) where
+    pub lies-above : Apart-in-y (old .point .y) (old .mate .y) (new .point .y) (new .mate .y) → compareSegments binary64 (inMode mode) new old ≡ Greater
+    unfolding compareSegments lessIfInversed isPositive isZero
+    lies-above r =
+        let cross = crossing-above mode (old .point) (old .mate) (new .point) (new .mate) r in
+        rw (newer-above old new b (r .a-c), decided Positive refl (left-turn old new b r) cross (not-level (r .a-c)) (less (r .a-c)))
 
--- ---- the answers
-module _ (old new : Key Coordinate) (O : Held old) (N : Held new) (t : beside old new ≡ true) where
-  abbrev near : Beside (old .point .x) (new .point .x) (old .mate .x)
-  near = is-beside old new O N t
+    lies-below : lt (old .point .x) (new .point .x) ≡ true → Apart-in-y (new .point .y) (new .mate .y) (old .point .y) (old .mate .y)
+        → compareSegments binary64 (inMode mode) new old ≡ Less
+    unfolding compareSegments lessIfInversed isPositive isZero
+    lies-below t r =
+        let cross = crossing-below mode (new .point) (new .mate) (old .point) (old .mate) r in
+        rw (newer old new b t, decided Negative refl (right-turn old new b r) cross (not-level-turned (r .a-c)) (not-less (r .a-c)))
 
-  pub above : under old new ≡ true → compareSegments binary64 plain new old ≡ Greater
-  above u = lies-above old new near (is-under old new O N u)
+  module _ (O : Held old) (N : Held new) (t : beside old new ≡ true) where
+    pub above : under old new ≡ true → compareSegments binary64 (inMode mode) new old ≡ Greater
+    above u = lies-above (is-beside old new O N t) (is-under old new O N u)
 
-  pub below : lt (old .point .x) (new .point .x) ≡ true → under new old ≡ true → compareSegments binary64 plain new old ≡ Less
-  unfolding compareSegments lessIfInversed isPositive isZero
-  below v u =
-      let r = is-under new old N O u in
-      let cross = crossing-below (new .point) (new .mate) (old .point) (old .mate) r in
-      rw (newer old new near v, decided old new near Negative refl (right-turn old new near r) cross (not-level-turned (r .a-c)) (not-less (r .a-c)))
+    pub below : lt (old .point .x) (new .point .x) ≡ true → under new old ≡ true → compareSegments binary64 (inMode mode) new old ≡ Less
+    below v u = lies-below (is-beside old new O N t) v (is-under new old N O u)

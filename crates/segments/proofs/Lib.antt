@@ -2,4 +2,5 @@
 pub mod Heights
 pub mod Boxes
 pub mod Certain
+pub mod Agreement
 pub mod Crossings

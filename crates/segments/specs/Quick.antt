@@ -1,15 +1,12 @@
 -- The tests in plain comparisons; where they pass, every number that they look at is finite. A reader of segment order's promise need not read
--- them: what the boxes tell agrees with it.
-use mathlib.Core.Path.{_≡_}
+-- them: what the boxes tell agrees with it, in every mode (a law: `proofs/Agreement`).
 use mathlib.Core.Bool.{Bool, false, cond}
 use lib.Ieee.{Float, neg, lt, le}
 use Rattle.numbers.specs.Binary64.{huge}
 use Rattle.numbers.specs.declared.Coordinate.{Coordinate}
 use Rattle.events.specs.Event.{Key}
-use Rattle.segments.specs.declared.Ordering.{Ordering}
-use Rattle.segments.specs.declared.Ordering.the-variants as order
 use Rattle.segments.specs.declared.ByBoxes.{ByBoxes}
-use Rattle.segments.specs.declared.ByBoxes.the-variants as boxes
+use Rattle.segments.specs.declared.ByBoxes.the-variants.{Less, Greater, Open}
 
 -- in x the newer one starts between the older one's ends or at one of them, and the older one is not vertical
 unfoldable pub beside : Key Coordinate → Key Coordinate → Bool
@@ -34,11 +31,5 @@ under low high =
 unfoldable pub byBoxes : Key Coordinate → Key Coordinate → ByBoxes
 byBoxes new old =
     cond (beside old new)
-    (cond (under old new) boxes.Greater (cond (lt (old .point .x) (new .point .x)) (cond (under new old) boxes.Less boxes.Open) boxes.Open))
-    boxes.Open
-
--- .. is so
-abbrev pub Agrees : ByBoxes → Ordering → Type 0
-Agrees boxes.Less o = o ≡ order.Less
-Agrees boxes.Greater o = o ≡ order.Greater
-Agrees boxes.Open o = Unit {0}
+    (cond (under old new) Greater (cond (lt (old .point .x) (new .point .x)) (cond (under new old) Less Open) Open))
+    Open

@@ -3,14 +3,14 @@ mod quick;
 
 ghost use mathlib.Core.Path.{_≡_};
 ghost use mathlib.Core.Bool.{Bool};
-ghost use Rattle.events.specs.Binary64.{binary64, plain, crossOf};
+ghost use Rattle.events.specs.Binary64.{binary64, inMode, crossOf};
 ghost use Rattle.events.specs.Pool.{pool};
 ghost use Rattle.order.specs.Keys.{shownKey};
 ghost use Rattle.order.specs.Order.{isZero};
 ghost use Rattle.segments.specs.Segments as Segments;
 ghost use Rattle.segments.specs.Segments.{isPositive, lessIf, lessIfInversed, alongside, byCrossing, oldBelow};
 ghost use Rattle.segments.specs.OnPool as OnPool;
-ghost use Rattle.segments.specs.Quick.{byBoxes, Agrees};
+ghost use Rattle.segments.specs.Quick.{byBoxes};
 use crossing::LineIntersection;
 use crossing::intersection;
 use events::points::same_point;
@@ -99,8 +99,8 @@ fn is_below_by(found: LineIntersection, old: Key, new: Key, left: bool, right: b
 }
 
 // The ends are not all on the older one's line: where they lie decides, or the crossing does.
-fn is_below_apart(old: Key, new: Key, sa_l: Sign, sa_r: Sign) -> bool
-    ensures { λ r. ⌜ r ≡ Segments.apart binary64 plain (shownKey old) (shownKey new) «sa_l» «sa_r» ⌝ }
+fn is_below_apart(old: Key, new: Key, sa_l: Sign, sa_r: Sign, mode: u32) -> bool
+    ensures { λ r. ⌜ r ≡ Segments.apart binary64 (inMode mode) (shownKey old) (shownKey new) «sa_l» «sa_r» ⌝ }
 {
     let left = is_positive(sa_l);
     let right = is_positive(sa_r);
@@ -116,13 +116,13 @@ fn is_below_apart(old: Key, new: Key, sa_l: Sign, sa_r: Sign) -> bool
     if is_zero(sa_l) {
         return right;
     }
-    let found = intersection(old.point, old.mate, new.point, new.mate);
+    let found = intersection(mode, old.point, old.mate, new.point, new.mate);
     is_below_by(found, old, new, left, right)
 }
 
 // Whether the older segment lies below the newer one.
-fn is_below(old: Key, new: Key) -> bool
-    ensures { λ r. ⌜ r ≡ oldBelow binary64 plain (shownKey old) (shownKey new) ⌝ }
+fn is_below(old: Key, new: Key, mode: u32) -> bool
+    ensures { λ r. ⌜ r ≡ oldBelow binary64 (inMode mode) (shownKey old) (shownKey new) ⌝ }
 {
     let sa_l = signed_area(old.point, old.mate, new.point);
     let sa_r = signed_area(old.point, old.mate, new.mate);
@@ -131,7 +131,7 @@ fn is_below(old: Key, new: Key) -> bool
             return is_alongside(old, new);
         }
     }
-    is_below_apart(old, new, sa_l, sa_r)
+    is_below_apart(old, new, sa_l, sa_r, mode)
 }
 
 // What the boxes of two segments are certain of.
@@ -141,10 +141,9 @@ enum ByBoxes {
     Open,
 }
 
-// Where b is the older one and the boxes lie apart in y, they tell how a compares to it.
+// Where b is the older one and the boxes lie apart in y, they tell how a compares to it, in every mode.
 fn by_boxes(a: Key, b: Key) -> ByBoxes
     ensures { λ r. ⌜ r ≡ byBoxes (shownKey a) (shownKey b) ⌝ }
-    ensures { λ r. ⌜ Agrees r (Segments.compareSegments binary64 plain (shownKey a) (shownKey b)) ⌝ }
 {
     if is_beside(b, a) {
         if is_under(b, a) {
@@ -161,27 +160,33 @@ fn by_boxes(a: Key, b: Key) -> ByBoxes
 }
 
 // Of two left records that are not one: the one that comes first in event order is the older.
-pub fn compare_segments(a: Key, b: Key) -> Ordering
-    ensures { λ r. ⌜ r ≡ Segments.compareSegments binary64 plain (shownKey a) (shownKey b) ⌝ }
+pub fn compare_segments(a: Key, b: Key, mode: u32) -> Ordering
+    ensures { λ r. ⌜ r ≡ Segments.compareSegments binary64 (inMode mode) (shownKey a) (shownKey b) ⌝ }
 {
     match by_boxes(a, b) {
         ByBoxes::Less => Ordering::Less,
         ByBoxes::Greater => Ordering::Greater,
         ByBoxes::Open => {
             if before(a, b) {
-                return less_if(is_below(a, b));
+                return less_if(is_below(a, b, mode));
             }
-            less_if_inversed(is_below(b, a))
+            less_if_inversed(is_below(b, a, mode))
         }
     }
 }
 
 // The same of two records of a pool; a record is equal to itself.
-pub fn compare_segments_at(points: &[[f64; 2]], marks: &[[u32; 12]], a: u32, b: u32) -> Ordering
-    ensures { λ r. ⌜ r ≡ OnPool.compareAt (pool (now (points .entry)) (now (marks .entry))) a b ⌝ }
+pub fn compare_segments_at(
+    points: &[[f64; 2]],
+    marks: &[[u32; 12]],
+    a: u32,
+    b: u32,
+    mode: u32,
+) -> Ordering
+    ensures { λ r. ⌜ r ≡ OnPool.compareAt mode (pool (now (points .entry)) (now (marks .entry))) a b ⌝ }
 {
     if a == b {
         return Ordering::Equal;
     }
-    compare_segments(key_at(points, marks, a), key_at(points, marks, b))
+    compare_segments(key_at(points, marks, a), key_at(points, marks, b), mode)
 }

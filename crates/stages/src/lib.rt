@@ -78,17 +78,18 @@ pub extern "C" fn bezorika_subdivide(
     marks: &mut [[u32; 12]],
     loaded: u32,
     operation: u32,
+    mode: u32,
     taken: &mut [u32],
     counts: &mut [u32; 4],
     place: &mut u64,
 ) -> u64
-    ensures { λ r. ⌜ r ≡ Told.sweepNumber (subdividePool (operationOf operation) (pool (now (points .entry)) (now (marks .entry))) loaded (now (taken .entry)) .answer .outcome) ⌝ }
-    ensures { λ _. ⌜ pool (now (points .exit)) (now (marks .exit)) ≡ subdividePool (operationOf operation) (pool (now (points .entry)) (now (marks .entry))) loaded (now (taken .entry)) .pool ⌝ }
-    ensures { λ _. ⌜ now (taken .exit) ≡ subdividePool (operationOf operation) (pool (now (points .entry)) (now (marks .entry))) loaded (now (taken .entry)) .taken ⌝ }
-    ensures { λ _. ⌜ now (counts .exit) ≡ Told.sweepCounts (subdividePool (operationOf operation) (pool (now (points .entry)) (now (marks .entry))) loaded (now (taken .entry)) .answer) ⌝ }
-    ensures { λ _. ⌜ now (place .exit) ≡ Told.sweepPlace (subdividePool (operationOf operation) (pool (now (points .entry)) (now (marks .entry))) loaded (now (taken .entry)) .answer .outcome) (now (place .entry)) ⌝ }
+    ensures { λ r. ⌜ r ≡ Told.sweepNumber (subdividePool (operationOf operation) mode (pool (now (points .entry)) (now (marks .entry))) loaded (now (taken .entry)) .answer .outcome) ⌝ }
+    ensures { λ _. ⌜ pool (now (points .exit)) (now (marks .exit)) ≡ subdividePool (operationOf operation) mode (pool (now (points .entry)) (now (marks .entry))) loaded (now (taken .entry)) .pool ⌝ }
+    ensures { λ _. ⌜ now (taken .exit) ≡ subdividePool (operationOf operation) mode (pool (now (points .entry)) (now (marks .entry))) loaded (now (taken .entry)) .taken ⌝ }
+    ensures { λ _. ⌜ now (counts .exit) ≡ Told.sweepCounts (subdividePool (operationOf operation) mode (pool (now (points .entry)) (now (marks .entry))) loaded (now (taken .entry)) .answer) ⌝ }
+    ensures { λ _. ⌜ now (place .exit) ≡ Told.sweepPlace (subdividePool (operationOf operation) mode (pool (now (points .entry)) (now (marks .entry))) loaded (now (taken .entry)) .answer .outcome) (now (place .entry)) ⌝ }
 {
-    let s = subdivide(points, marks, loaded, operation_of(operation), taken);
+    let s = subdivide(points, marks, loaded, operation_of(operation), mode, taken);
     tell_swept(s, counts);
     let outcome = s.outcome;
     tell_end(outcome, place)

@@ -7,7 +7,7 @@ use native.Mathlib.Omega.{arith}
 use lib.ListN.{length, take, drop}
 use lib.Seq.{sets, take-append-seam, drop-append-seam}
 use Rattle.lists.proofs.Fronts.{sets-front}
-use Rattle.events.specs.Binary64.{binary64, plain}
+use Rattle.events.specs.Binary64.{binary64, inMode}
 use Rattle.events.specs.Pool.{Pool, stored}
 use Rattle.events.proofs.Stored.{pool-stored}
 use Rattle.class.specs.declared.Operation.{Operation}
@@ -22,17 +22,17 @@ use Rattle.sweep.specs.OnPool.{accept, outcomeOf, answerOf, afterRun, as
 use Rattle.sweep.proofs.Ends.{counted, ends, used-is}
 use Rattle.sweep.proofs.Sweeps.{accepted, places-are}
 
-module _ (op : Operation) (p : Pool) (n : ℕ) (lent : List ℕ) where
+module _ (op : Operation) (mode : ℕ) (p : Pool) (n : ℕ) (lent : List ℕ) where
   abbrev last : State Pool
-  last = subdivide binary64 stored plain op p n
+  last = subdivide binary64 stored (inMode mode) op p n
 
   -- refused or not
-  pub used-counted : subdividePool op p n lent .answer .used ≡ n + 2 * subdividePool op p n lent .answer .divisions
+  pub used-counted : subdividePool op mode p n lent .answer .used ≡ n + 2 * subdividePool op mode p n lent .answer .divisions
   unfolding subdividePool afterChecks afterRun answerOf asLent
   used-counted = go (accept p n lent)
     where
-      go : (x : Check) → afterChecks x op p n lent .answer .used ≡ n + 2 * afterChecks x op p n lent .answer .divisions
-      go Passed = used-is binary64 stored pool-stored plain op p n
+      go : (x : Check) → afterChecks x op mode p n lent .answer .used ≡ n + 2 * afterChecks x op mode p n lent .answer .divisions
+      go Passed = used-is binary64 stored pool-stored (inMode mode) op p n
       go (Struck r) = omega arith
 
   module _ (h : accept p n lent ≡ Passed) where
@@ -40,25 +40,25 @@ module _ (op : Operation) (p : Pool) (n : ℕ) (lent : List ℕ) where
     room =
         let a = accepted p n lent h in
         let s = places-are p (a .0) in
-        let k = counted binary64 stored pool-stored plain op p n .places in
+        let k = counted binary64 stored pool-stored (inMode mode) op p n .places in
         omega (arith, s, k, a .1)
 
     list : sets lent 0 (last .taken) ≡ last .taken ++ drop (length (last .taken)) lent
     list = sets-front lent (last .taken) room
 
-    pub events-counted : take (subdividePool op p n lent .answer .taken) (subdividePool op p n lent .taken) ≡ last .taken
+    pub events-counted : take (subdividePool op mode p n lent .answer .taken) (subdividePool op mode p n lent .taken) ≡ last .taken
     unfolding subdividePool afterChecks afterRun answerOf
     events-counted = rw (h, list) (take-append-seam (last .taken) _)
 
-    pub rest-as-lent : drop (subdividePool op p n lent .answer .taken) (subdividePool op p n lent .taken) ≡ drop (subdividePool op p n lent .answer .taken) lent
+    pub rest-as-lent : drop (subdividePool op mode p n lent .answer .taken) (subdividePool op mode p n lent .taken) ≡ drop (subdividePool op mode p n lent .answer .taken) lent
     unfolding subdividePool afterChecks afterRun answerOf
     rest-as-lent = rw (h, list) (drop-append-seam (last .taken) _)
 
-    pub done-ended : subdividePool op p n lent .answer .outcome ≡ Done → last .stop ≡ Stops.Ended
+    pub done-ended : subdividePool op mode p n lent .answer .outcome ≡ Done → last .stop ≡ Stops.Ended
     unfolding subdividePool afterChecks afterRun answerOf outcomeOf
     done-ended = rw h (λ e. by (last .stop) refl e)
       where
         by : (x : Stop) → last .stop ≡ x → outcomeOf x ≡ Done → last .stop ≡ Stops.Ended
-        by Stops.Going s e = absurd (ends binary64 stored pool-stored plain op p n s)
+        by Stops.Going s e = absurd (ends binary64 stored pool-stored (inMode mode) op p n s)
         by Stops.Ended s e = s
         by (Stops.Refused r) s e = absurd (let z : _≡_ {A = ℕ} 0 1 = cc in omega arith)

@@ -11,7 +11,8 @@ use lib.Dec.{eqb}
 use borrow.Author.Tests.{ltb-false}
 use Rattle.numbers.specs.declared.Coordinate.{Coordinate}
 use Rattle.events.specs.declared.Link.the-variants.{To}
-use Rattle.events.specs.Binary64.{binary64, plain}
+use Rattle.events.specs.Binary64.{binary64}
+use Rattle.events.specs.Coordinates.{Crossing}
 use Rattle.events.specs.Pool.{Pool, rowAt, stored}
 use Rattle.events.specs.Store.{look}
 use Rattle.events.proofs.Stored.{pool-stored}
@@ -111,26 +112,26 @@ module _ {p : Pool} {w : List Bool} {queue : List ℕ} {t : Turn} (q : Queues p 
 
   -- ---- after a step in which event e is taken
 
-  module _ (op : Operation) (past : Coordinate → Bool) (e : ℕ) (n : next binary64 stored here ≡ To e) where
+  module _ (crossing : Crossing Coordinate) (op : Operation) (past : Coordinate → Bool) (e : ℕ) (n : next binary64 stored here ≡ To e) where
     abbrev there : State Pool
-    there = turn binary64 stored plain op past (takes here e (isTied binary64 stored here e)) e
+    there = turn binary64 stored crossing op past (takes here e (isTied binary64 stored here e)) e
 
     same-size : stored .size (there .store) ≡ stored .size p
     unfolding takes
-    same-size = turn-size binary64 stored pool-stored plain op past (takes here e (isTied binary64 stored here e)) e
+    same-size = turn-size binary64 stored pool-stored crossing op past (takes here e (isTied binary64 stored here e)) e
 
     lined-there : Lined binary64 stored there (relined (there .store) (there .waits) (t .used) (there .used) (length queue) (take (t .waiting - 1) queue))
     unfolding isBefore beforeUsed
     lined-there =
         let shorter : take (length line - 1) line ≡ take (t .waiting - 1) queue = ap (λ k. take (k - 1) line) as-many ∙ take-take (t .waiting - 1) (t .waiting) queue (omega arith) in
         subst (λ l. Lined binary64 stored there (relined (there .store) (there .waits) (t .used) (there .used) (length queue) l)) shorter
-        (lined-step move-laws pool-stored pool-blanks plain op past here line (length queue) lined-here (q .room) e (isTied binary64 stored here e) n)
+        (lined-step move-laws pool-stored pool-blanks crossing op past here line (length queue) lined-here (q .room) e (isTied binary64 stored here e) n)
 
-    pub step-at : (p' : Pool) (w' : List Bool) (queue' status' taken' : List ℕ) (r : Turn) → state p' w' status' taken' r ≡ step binary64 stored plain op past here
+    pub step-at : (p' : Pool) (w' : List Bool) (queue' status' taken' : List ℕ) (r : Turn) → state p' w' status' taken' r ≡ step binary64 stored crossing op past here
         → take (r .waiting) queue' ≡ relined p' w' (t .used) (r .used) (length queue) (take (t .waiting - 1) queue) → r .waiting ≤ length queue' → length queue' ≡ length queue → Queues p' w' queue' r
     unfolding step stepBy isBefore
     step-at p' w' queue' status' taken' r is line' within long =
-        let same : there ≡ state p' w' status' taken' r = sym (is ∙ ap (stepBy binary64 stored plain op past here) n) in
+        let same : there ≡ state p' w' status' taken' r = sym (is ∙ ap (stepBy binary64 stored crossing op past here) n) in
         let x = subst (λ (z : State Pool). Lined binary64 stored z (relined (z .store) (z .waits) (t .used) (z .used) (length queue) (take (t .waiting - 1) queue))) same lined-there in
         let size = ap (λ (z : State Pool). stored .size (z .store)) (sym same) ∙ same-size in
         let room = q .room in

@@ -9,7 +9,7 @@ use lib.ListN.{length}
 use lib.Dec.{eqb, ltb}
 use Rattle.refusals.specs.declared.Refusal.{Refusal}
 use Rattle.events.specs.Coordinates.{Coordinates, Crossing}
-use Rattle.events.specs.Binary64.{binary64, plain}
+use Rattle.events.specs.Binary64.{binary64, inMode}
 use Rattle.events.specs.Pool.{Pool, rowAt, stored}
 use Rattle.events.specs.Store.{Store, look}
 use Rattle.class.specs.declared.Operation.{Operation}
@@ -78,7 +78,7 @@ sizes-by points marks taken n x = go (missized points marks || (not (eqb points 
     go true e = let z : sizeRefusal ≡ x = cc in sym (ap (λ (y : Refusal). y .number) z)
     go false e = let z : _≡_ {A = ℕ} 0 1 = cc in absurd (omega arith)
 
-module _ (op : Operation) (p : Pool) (n : ℕ) (lent : List ℕ) where
+module _ (op : Operation) (mode : ℕ) (p : Pool) (n : ℕ) (lent : List ℕ) where
   given-by : (x : Refusal) → accept p n lent ≡ Struck x → (x .number ≡ 1) ⊎ ((x .number ≡ 2) ⊎ (x .number ≡ 4))
   unfolding accept
   given-by x e =
@@ -86,7 +86,7 @@ module _ (op : Operation) (p : Pool) (n : ℕ) (lent : List ℕ) where
       (λ h. inr (⊎-elim (λ k. inl (ap (λ (y : Refusal). y .number) (k .tells))) (λ k. inr (ap (λ (y : Refusal). y .number) (k .1 .tells))) (checked-refused binary64 (rowAt p) n (numbersFrom 0 n) x (h .1))))
       (either-refused (sizes (length (p .points)) (length (p .marks)) (length lent) n) _ x e)
 
-  pub told-by : (x : Refusal) → subdividePool op p n lent .answer .outcome ≡ Refused x → Known x
+  pub told-by : (x : Refusal) → subdividePool op mode p n lent .answer .outcome ≡ Refused x → Known x
   unfolding subdividePool afterChecks afterRun answerOf asLent outcomeOf
   told-by x = go (accept p n lent) refl
     where
@@ -95,6 +95,6 @@ module _ (op : Operation) (p : Pool) (n : ℕ) (lent : List ℕ) where
       stop Stops.Ended h e = let z : _≡_ {A = ℕ} 0 1 = cc in absurd (omega arith)
       stop (Stops.Refused r) h e = let z : r ≡ x = cc in rw z at h
 
-      go : (y : Check) → accept p n lent ≡ y → afterChecks y op p n lent .answer .outcome ≡ Refused x → Known x
-      go Passed h e = inr (stop (subdivide binary64 stored plain op p n .stop) (sweep-by binary64 stored plain op p n) e)
+      go : (y : Check) → accept p n lent ≡ y → afterChecks y op mode p n lent .answer .outcome ≡ Refused x → Known x
+      go Passed h e = inr (stop (subdivide binary64 stored (inMode mode) op p n .stop) (sweep-by binary64 stored (inMode mode) op p n) e)
       go (Struck r) h e = let z : r ≡ x = cc in inl (given-by x (rw z at h))

@@ -1,4 +1,4 @@
--- The sweep of a lent pool, at binary64: checks 1, 2 and 4 over all loaded records, then the run. What the lent arrays hold afterwards, refused or not.
+-- The sweep of a lent pool, at binary64 and in a mode of crossing: checks 1, 2 and 4 over all loaded records, then the run. What the lent arrays hold afterwards, refused or not.
 use mathlib.Core.Bool.{false, not, cond, _||_}
 use mathlib.Core.List.{List}
 use Prim.Native.Nat.{ℕ}
@@ -6,7 +6,7 @@ use lib.ListN.{length}
 use lib.Seq.{sets}
 use lib.Dec.{eqb, ltb}
 use Rattle.refusals.specs.declared.Refusal.{Refusal}
-use Rattle.events.specs.Binary64.{binary64, plain}
+use Rattle.events.specs.Binary64.{binary64, inMode}
 use Rattle.events.specs.Pool.{Pool, rowAt, stored}
 use Rattle.class.specs.declared.Operation.{Operation}
 use Rattle.checks.specs.declared.Check.{Check}
@@ -57,9 +57,9 @@ unfoldable pub asLent : Refusal → Pool → ℕ → List ℕ → After
 asLent r p n lent =
     record { answer = record { taken = 0; divisions = 0; used = n; tied = false; outcome = Refused r }; pool = p; taken = lent }
 
-unfoldable pub afterChecks : Check → Operation → Pool → ℕ → List ℕ → After
-afterChecks Passed op p n lent = afterRun (subdivide binary64 stored plain op p n) n lent
-afterChecks (Struck r) op p n lent = asLent r p n lent
+unfoldable pub afterChecks : Check → Operation → (mode : ℕ) → Pool → ℕ → List ℕ → After
+afterChecks Passed op mode p n lent = afterRun (subdivide binary64 stored (inMode mode) op p n) n lent
+afterChecks (Struck r) op mode p n lent = asLent r p n lent
 
-unfoldable pub subdividePool : Operation → Pool → ℕ → List ℕ → After
-subdividePool op p n taken = afterChecks (accept p n taken) op p n taken
+unfoldable pub subdividePool : Operation → (mode : ℕ) → Pool → ℕ → List ℕ → After
+subdividePool op mode p n taken = afterChecks (accept p n taken) op mode p n taken

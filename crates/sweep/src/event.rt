@@ -2,7 +2,7 @@
 ghost use mathlib.Core.Path.{_≡_};
 ghost use Prim.Native.Nat.{_-_, _<_, _≤_};
 ghost use lib.ListN.{length, take};
-ghost use Rattle.events.specs.Binary64.{binary64, plain};
+ghost use Rattle.events.specs.Binary64.{binary64, inMode};
 ghost use Rattle.events.specs.Pool.{pool, stored};
 ghost use Rattle.status.specs.Status.{below};
 ghost use Rattle.checks.specs.Checks.{maxEvents};
@@ -45,17 +45,28 @@ fn enter(
     t: Turn,
     e: u32,
     operation: Operation,
+    mode: u32,
 ) -> Turn
     requires { ⌜ (t .members < length (now status)) × (length (now status) ≤ maxEvents) ⌝ }
-    ensures { λ r. ⌜ Does (λ s. Spec.enter binary64 stored plain operation s e) (pool (now (points .entry)) (now (marks .entry))) (take (t .members) (now (status .entry))) t (pool (now (points .exit)) (now (marks .exit))) (take (r .members) (now (status .exit))) r ⌝ }
+    ensures { λ r. ⌜ Does (λ s. Spec.enter binary64 stored (inMode mode) operation s e) (pool (now (points .entry)) (now (marks .entry))) (take (t .members) (now (status .entry))) t (pool (now (points .exit)) (now (marks .exit))) (take (r .members) (now (status .exit))) r ⌝ }
     ensures { λ r. ⌜ Worked t r ⌝ }
 {
     let n = t.members as usize;
-    let k = slot_below(points, marks, t.used, status, n, e);
+    let k = slot_below(points, marks, t.used, status, n, e, mode);
     let lower = below_at(status, n, k);
     let upper = member_at(status, n, k);
     let lowest = lowest_at(status, n, k);
-    let last = between(points, marks, t.used, e, lower, upper, lowest, operation);
+    let last = between(
+        points,
+        marks,
+        t.used,
+        e,
+        lower,
+        upper,
+        lowest,
+        operation,
+        mode,
+    );
     insert_at(status, n, k, e);
     after_meeting(t, t.members + 1, last)
 }
@@ -67,15 +78,16 @@ fn leave_at(
     status: &mut [u32],
     t: Turn,
     k: usize,
+    mode: u32,
 ) -> Turn
     requires { ⌜ (k < t .members) × (t .members ≤ length (now status)) ⌝ }
-    ensures { λ r. ⌜ Does (λ s. Spec.leaveAt binary64 stored plain s k) (pool (now (points .entry)) (now (marks .entry))) (take (t .members) (now (status .entry))) t (pool (now (points .exit)) (now (marks .exit))) (take (r .members) (now (status .exit))) r ⌝ }
+    ensures { λ r. ⌜ Does (λ s. Spec.leaveAt binary64 stored (inMode mode) s k) (pool (now (points .entry)) (now (marks .entry))) (take (t .members) (now (status .entry))) t (pool (now (points .exit)) (now (marks .exit))) (take (r .members) (now (status .exit))) r ⌝ }
     ensures { λ r. ⌜ Worked t r ⌝ }
 {
     let n = t.members as usize;
     let lower = below_at(status, n, k);
     let upper = member_at(status, n, k + 1);
-    let last = close_up(points, marks, t.used, lower, upper);
+    let last = close_up(points, marks, t.used, lower, upper, mode);
     let met = last.met;
     match met {
         Met::Refused(_) => after_meeting(t, t.members, last),
@@ -93,15 +105,16 @@ fn leave(
     status: &mut [u32],
     t: Turn,
     o: u32,
+    mode: u32,
 ) -> Turn
     requires { ⌜ t .members ≤ length (now status) ⌝ }
-    ensures { λ r. ⌜ Does (λ s. Spec.leave binary64 stored plain s o) (pool (now (points .entry)) (now (marks .entry))) (take (t .members) (now (status .entry))) t (pool (now (points .exit)) (now (marks .exit))) (take (r .members) (now (status .exit))) r ⌝ }
+    ensures { λ r. ⌜ Does (λ s. Spec.leave binary64 stored (inMode mode) s o) (pool (now (points .entry)) (now (marks .entry))) (take (t .members) (now (status .entry))) t (pool (now (points .exit)) (now (marks .exit))) (take (r .members) (now (status .exit))) r ⌝ }
     ensures { λ r. ⌜ Worked t r ⌝ }
 {
     let n = t.members as usize;
     let k = slot_of(status, n, o);
     if k < n {
-        return leave_at(points, marks, status, t, k);
+        return leave_at(points, marks, status, t, k, mode);
     }
     t
 }
@@ -114,10 +127,11 @@ pub fn work(
     t: Turn,
     e: u32,
     operation: Operation,
+    mode: u32,
     bounds: Bounds,
 ) -> Turn
     requires { ⌜ (t .members < length (now status)) × (length (now status) ≤ maxEvents) ⌝ }
-    ensures { λ r. ⌜ Does (λ s. Spec.turn binary64 stored plain operation (isPast binary64 operation (reachOf (bounds .subject)) (reachOf (bounds .clip))) s e) (pool (now (points .entry)) (now (marks .entry))) (take (t .members) (now (status .entry))) t (pool (now (points .exit)) (now (marks .exit))) (take (r .members) (now (status .exit))) r ⌝ }
+    ensures { λ r. ⌜ Does (λ s. Spec.turn binary64 stored (inMode mode) operation (isPast binary64 operation (reachOf (bounds .subject)) (reachOf (bounds .clip))) s e) (pool (now (points .entry)) (now (marks .entry))) (take (t .members) (now (status .entry))) t (pool (now (points .exit)) (now (marks .exit))) (take (r .members) (now (status .exit))) r ⌝ }
     ensures { λ r. ⌜ Worked t r ⌝ }
 {
     let f = read_used(points, marks, t.used, e);
@@ -126,7 +140,7 @@ pub fn work(
         return end(t);
     }
     if f.left {
-        return enter(points, marks, status, t, e, operation);
+        return enter(points, marks, status, t, e, operation, mode);
     }
-    leave(points, marks, status, t, f.partner)
+    leave(points, marks, status, t, f.partner, mode)
 }

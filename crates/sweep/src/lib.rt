@@ -2,7 +2,7 @@
 ghost use mathlib.Core.Path.{_≡_};
 ghost use Prim.Native.Nat.{_≤_};
 ghost use lib.ListN.{length};
-ghost use Rattle.events.specs.Binary64.{binary64, plain};
+ghost use Rattle.events.specs.Binary64.{binary64, inMode};
 ghost use Rattle.events.specs.Pool.{pool, stored};
 ghost use Rattle.checks.specs.declared.Check.the-variants.{Passed};
 ghost use Rattle.checks.specs.Checks.{maxEvents, fewEvents};
@@ -96,13 +96,14 @@ fn sweep_in(
     marks: &mut [[u32; 12]],
     loaded: u32,
     operation: Operation,
+    mode: u32,
     taken: &mut [u32],
     waits: &mut [bool],
     queue: &mut [u32],
     status: &mut [u32],
 ) -> Swept
     requires { ⌜ (accept (pool (now points) (now marks)) loaded (now taken) ≡ Passed) × Lends (length (now points)) (now waits) (now queue) (now status) ⌝ }
-    ensures { λ r. ⌜ after r (pool (now (points .exit)) (now (marks .exit))) (now (taken .exit)) ≡ afterRun (Spec.subdivide binary64 stored plain operation (pool (now (points .entry)) (now (marks .entry))) loaded) loaded (now (taken .entry)) ⌝ }
+    ensures { λ r. ⌜ after r (pool (now (points .exit)) (now (marks .exit))) (now (taken .exit)) ≡ afterRun (Spec.subdivide binary64 stored (inMode mode) operation (pool (now (points .entry)) (now (marks .entry))) loaded) loaded (now (taken .entry)) ⌝ }
 {
     let size = points.len();
     let bounds = bounds_of(points, marks, loaded);
@@ -116,6 +117,7 @@ fn sweep_in(
         taken,
         line_up(start(loaded), waiting),
         operation,
+        mode,
         bounds,
         size + 1,
     );
@@ -135,10 +137,11 @@ fn sweep_few(
     marks: &mut [[u32; 12]],
     loaded: u32,
     operation: Operation,
+    mode: u32,
     taken: &mut [u32],
 ) -> Swept
     requires { ⌜ (accept (pool (now points) (now marks)) loaded (now taken) ≡ Passed) × (length (now points) ≤ fewEvents) ⌝ }
-    ensures { λ r. ⌜ after r (pool (now (points .exit)) (now (marks .exit))) (now (taken .exit)) ≡ afterRun (Spec.subdivide binary64 stored plain operation (pool (now (points .entry)) (now (marks .entry))) loaded) loaded (now (taken .entry)) ⌝ }
+    ensures { λ r. ⌜ after r (pool (now (points .exit)) (now (marks .exit))) (now (taken .exit)) ≡ afterRun (Spec.subdivide binary64 stored (inMode mode) operation (pool (now (points .entry)) (now (marks .entry))) loaded) loaded (now (taken .entry)) ⌝ }
 {
     let mut waits = [true; FEW];
     let mut queue = [0u32; FEW];
@@ -148,6 +151,7 @@ fn sweep_few(
         marks,
         loaded,
         operation,
+        mode,
         taken,
         &mut waits,
         &mut queue,
@@ -161,10 +165,11 @@ fn sweep_many(
     marks: &mut [[u32; 12]],
     loaded: u32,
     operation: Operation,
+    mode: u32,
     taken: &mut [u32],
 ) -> Swept
     requires { ⌜ (accept (pool (now points) (now marks)) loaded (now taken) ≡ Passed) × (length (now points) ≤ maxEvents) ⌝ }
-    ensures { λ r. ⌜ after r (pool (now (points .exit)) (now (marks .exit))) (now (taken .exit)) ≡ afterRun (Spec.subdivide binary64 stored plain operation (pool (now (points .entry)) (now (marks .entry))) loaded) loaded (now (taken .entry)) ⌝ }
+    ensures { λ r. ⌜ after r (pool (now (points .exit)) (now (marks .exit))) (now (taken .exit)) ≡ afterRun (Spec.subdivide binary64 stored (inMode mode) operation (pool (now (points .entry)) (now (marks .entry))) loaded) loaded (now (taken .entry)) ⌝ }
 {
     let mut waits = [true; MAX_EVENTS];
     let mut queue = [0u32; MAX_EVENTS];
@@ -174,6 +179,7 @@ fn sweep_many(
         marks,
         loaded,
         operation,
+        mode,
         taken,
         &mut waits,
         &mut queue,
@@ -187,26 +193,28 @@ fn sweep(
     marks: &mut [[u32; 12]],
     loaded: u32,
     operation: Operation,
+    mode: u32,
     taken: &mut [u32],
 ) -> Swept
     requires { ⌜ accept (pool (now points) (now marks)) loaded (now taken) ≡ Passed ⌝ }
-    ensures { λ r. ⌜ after r (pool (now (points .exit)) (now (marks .exit))) (now (taken .exit)) ≡ afterRun (Spec.subdivide binary64 stored plain operation (pool (now (points .entry)) (now (marks .entry))) loaded) loaded (now (taken .entry)) ⌝ }
+    ensures { λ r. ⌜ after r (pool (now (points .exit)) (now (marks .exit))) (now (taken .exit)) ≡ afterRun (Spec.subdivide binary64 stored (inMode mode) operation (pool (now (points .entry)) (now (marks .entry))) loaded) loaded (now (taken .entry)) ⌝ }
 {
     if points.len() <= FEW {
-        return sweep_few(points, marks, loaded, operation, taken);
+        return sweep_few(points, marks, loaded, operation, mode, taken);
     }
-    sweep_many(points, marks, loaded, operation, taken)
+    sweep_many(points, marks, loaded, operation, mode, taken)
 }
 
-// Sweeps the first `loaded` records of a pool; the events taken stand in `taken`, from its first place.
+// Sweeps the first `loaded` records of a pool, with crossings in a mode; the events taken stand in `taken`, from its first place.
 pub fn subdivide(
     points: &mut [[f64; 2]],
     marks: &mut [[u32; 12]],
     loaded: u32,
     operation: Operation,
+    mode: u32,
     taken: &mut [u32],
 ) -> Swept
-    ensures { λ r. ⌜ after r (pool (now (points .exit)) (now (marks .exit))) (now (taken .exit)) ≡ subdividePool operation (pool (now (points .entry)) (now (marks .entry))) loaded (now (taken .entry)) ⌝ }
+    ensures { λ r. ⌜ after r (pool (now (points .exit)) (now (marks .exit))) (now (taken .exit)) ≡ subdividePool operation mode (pool (now (points .entry)) (now (marks .entry))) loaded (now (taken .entry)) ⌝ }
 {
     match check(points, marks, taken, loaded) {
         Check::Refused(refusal) => Swept {
@@ -216,6 +224,6 @@ pub fn subdivide(
             tied: false,
             outcome: Outcome::Refused(refusal),
         },
-        Check::Passed => sweep(points, marks, loaded, operation, taken),
+        Check::Passed => sweep(points, marks, loaded, operation, mode, taken),
     }
 }

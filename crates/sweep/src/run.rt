@@ -3,7 +3,7 @@ ghost use mathlib.Core.Path.{_≡_};
 ghost use mathlib.Core.Bool.{Bool};
 ghost use Prim.Native.Nat.{_<_, _≤_};
 ghost use lib.ListN.{length, set, take};
-ghost use Rattle.events.specs.Binary64.{binary64, plain};
+ghost use Rattle.events.specs.Binary64.{binary64, inMode};
 ghost use Rattle.events.specs.Pool.{pool, stored};
 ghost use Rattle.checks.specs.Checks.{maxEvents};
 ghost use Rattle.sweep.specs.Bounds.{reachOf, isPast};
@@ -46,10 +46,11 @@ fn step(
     taken: &mut [u32],
     t: Turn,
     operation: Operation,
+    mode: u32,
     bounds: Bounds,
 ) -> Turn
     requires { ⌜ Fits (now waits) (now status) (now taken) t × Queues (pool (now points) (now marks)) (now waits) (now queue) t ⌝ }
-    ensures { λ r. ⌜ state (pool (now (points .exit)) (now (marks .exit))) (now (waits .exit)) (take (r .members) (now (status .exit))) (take (r .count) (now (taken .exit))) r ≡ Spec.step binary64 stored plain operation (isPast binary64 operation (reachOf (bounds .subject)) (reachOf (bounds .clip))) (state (pool (now (points .entry)) (now (marks .entry))) (now (waits .entry)) (take (t .members) (now (status .entry))) (take (t .count) (now (taken .entry))) t) ⌝ }
+    ensures { λ r. ⌜ state (pool (now (points .exit)) (now (marks .exit))) (now (waits .exit)) (take (r .members) (now (status .exit))) (take (r .count) (now (taken .exit))) r ≡ Spec.step binary64 stored (inMode mode) operation (isPast binary64 operation (reachOf (bounds .subject)) (reachOf (bounds .clip))) (state (pool (now (points .entry)) (now (marks .entry))) (now (waits .entry)) (take (t .members) (now (status .entry))) (take (t .count) (now (taken .entry))) t) ⌝ }
     ensures { λ r. ⌜ Fits (now (waits .exit)) (now (status .exit)) (now (taken .exit)) r × Beyond (now (taken .entry)) (now (taken .exit)) t r ⌝ }
     ensures { λ r. ⌜ Queues (pool (now (points .exit)) (now (marks .exit))) (now (waits .exit)) (now (queue .exit)) r ⌝ }
 {
@@ -59,7 +60,7 @@ fn step(
         Link::To(e) => {
             let rival = ties_with(points, marks, t.used, e, lowest_at(queue, n, n));
             let u = take_event(waits, taken, t, e, rival);
-            let v = work(points, marks, status, u, e, operation, bounds);
+            let v = work(points, marks, status, u, e, operation, mode, bounds);
             let m = requeue(points, marks, waits, t.used, v.used, queue, t.waiting - 1);
             line_up(v, m)
         }
@@ -76,11 +77,12 @@ pub fn run(
     taken: &mut [u32],
     t: Turn,
     operation: Operation,
+    mode: u32,
     bounds: Bounds,
     steps: usize,
 ) -> Turn
     requires { ⌜ Fits (now waits) (now status) (now taken) t × Queues (pool (now points) (now marks)) (now waits) (now queue) t ⌝ }
-    ensures { λ r. ⌜ state (pool (now (points .exit)) (now (marks .exit))) (now (waits .exit)) (take (r .members) (now (status .exit))) (take (r .count) (now (taken .exit))) r ≡ Spec.run binary64 stored plain operation (isPast binary64 operation (reachOf (bounds .subject)) (reachOf (bounds .clip))) steps (state (pool (now (points .entry)) (now (marks .entry))) (now (waits .entry)) (take (t .members) (now (status .entry))) (take (t .count) (now (taken .entry))) t) ⌝ }
+    ensures { λ r. ⌜ state (pool (now (points .exit)) (now (marks .exit))) (now (waits .exit)) (take (r .members) (now (status .exit))) (take (r .count) (now (taken .exit))) r ≡ Spec.run binary64 stored (inMode mode) operation (isPast binary64 operation (reachOf (bounds .subject)) (reachOf (bounds .clip))) steps (state (pool (now (points .entry)) (now (marks .entry))) (now (waits .entry)) (take (t .members) (now (status .entry))) (take (t .count) (now (taken .entry))) t) ⌝ }
     ensures { λ r. ⌜ Fits (now (waits .exit)) (now (status .exit)) (now (taken .exit)) r × Beyond (now (taken .entry)) (now (taken .exit)) t r ⌝ }
     ensures { λ r. ⌜ Queues (pool (now (points .exit)) (now (marks .exit))) (now (waits .exit)) (now (queue .exit)) r ⌝ }
 {
@@ -100,6 +102,7 @@ pub fn run(
             taken,
             now,
             operation,
+            mode,
             bounds,
         );
         k += 1;

@@ -7,7 +7,8 @@ use Rattle.refusals.specs.declared.Refusal.{Refusal}
 use Rattle.numbers.specs.declared.Coordinate.{Coordinate}
 use Rattle.events.specs.declared.Link.{Link}
 use Rattle.events.specs.declared.Link.the-variants.{None, To}
-use Rattle.events.specs.Binary64.{binary64, plain}
+use Rattle.events.specs.Binary64.{binary64}
+use Rattle.events.specs.Coordinates.{Crossing}
 use Rattle.events.specs.Event.{Event, Key}
 use Rattle.events.specs.Pool.{Pool, store, stored}
 use Rattle.events.specs.Store.{look}
@@ -39,53 +40,53 @@ module _ (s : Pool) (n : ℕ) (x : Met) (two : Bool) (op : Operation) (a b : ℕ
 
 -- ---- a left event and its neighbours
 
-module _ (s : Pool) (used e : ℕ) (op : Operation) where
-  pub upper-none : (lower upper : Link) (n : ℕ) (x : Met) → upper ≡ None → n ≡ used → x ≡ Code 0 → meeting s n x ≡ withUpper binary64 stored op plain s used e lower upper
+module _ (crossing : Crossing Coordinate) (s : Pool) (used e : ℕ) (op : Operation) where
+  pub upper-none : (lower upper : Link) (n : ℕ) (x : Met) → upper ≡ None → n ≡ used → x ≡ Code 0 → meeting s n x ≡ withUpper binary64 stored op crossing s used e lower upper
   unfolding withUpper
   upper-none lower upper n x h p q = rw (h, p, q)
 
-  pub upper-met : (lower upper : Link) (b n : ℕ) (t : Pool) (x : Met) (y : Meeting Pool) → upper ≡ To b → meeting t n x ≡ meet binary64 stored plain s used e b
-      → y ≡ reclassed binary64 stored op (meeting t n x) e lower b → y ≡ withUpper binary64 stored op plain s used e lower upper
+  pub upper-met : (lower upper : Link) (b n : ℕ) (t : Pool) (x : Met) (y : Meeting Pool) → upper ≡ To b → meeting t n x ≡ meet binary64 stored crossing s used e b
+      → y ≡ reclassed binary64 stored op (meeting t n x) e lower b → y ≡ withUpper binary64 stored op crossing s used e lower upper
   unfolding withUpper
   upper-met lower upper b n t x y h m r = rw (h, ← m) r
 
-  pub lower-none : (lower lowest : Link) (n : ℕ) (x : Met) → lower ≡ None → n ≡ used → x ≡ Code 0 → meeting s n x ≡ withLower binary64 stored op plain s used e lower lowest
+  pub lower-none : (lower lowest : Link) (n : ℕ) (x : Met) → lower ≡ None → n ≡ used → x ≡ Code 0 → meeting s n x ≡ withLower binary64 stored op crossing s used e lower lowest
   unfolding withLower
   lower-none lower lowest n x h p q = rw (h, p, q)
 
-  pub lower-met : (lower lowest : Link) (b n : ℕ) (t : Pool) (x : Met) (y : Meeting Pool) → lower ≡ To b → meeting t n x ≡ meet binary64 stored plain s used b e
-      → y ≡ reclassed binary64 stored op (meeting t n x) b lowest e → y ≡ withLower binary64 stored op plain s used e lower lowest
+  pub lower-met : (lower lowest : Link) (b n : ℕ) (t : Pool) (x : Met) (y : Meeting Pool) → lower ≡ To b → meeting t n x ≡ meet binary64 stored crossing s used b e
+      → y ≡ reclassed binary64 stored op (meeting t n x) b lowest e → y ≡ withLower binary64 stored op crossing s used e lower lowest
   unfolding withLower
   lower-met lower lowest b n t x y h m r = rw (h, ← m) r
 
-  module _ (lower upper lowest : Link) (t u : Pool) (n : ℕ) (x : Met) (class : t ≡ classified binary64 stored op s used e lower) (first : meeting u n x ≡ withUpper binary64 stored op plain t used e lower upper) where
-    pub between-on : (c : ℕ) (y : Meeting Pool) → x ≡ Code c → y ≡ withLower binary64 stored op plain u n e lower lowest → y ≡ between binary64 stored op plain s used e lower upper lowest
+  module _ (lower upper lowest : Link) (t u : Pool) (n : ℕ) (x : Met) (class : t ≡ classified binary64 stored op s used e lower) (first : meeting u n x ≡ withUpper binary64 stored op crossing t used e lower upper) where
+    pub between-on : (c : ℕ) (y : Meeting Pool) → x ≡ Code c → y ≡ withLower binary64 stored op crossing u n e lower lowest → y ≡ between binary64 stored op crossing s used e lower upper lowest
     unfolding between afterwards
     between-on c y h r = rw (← class, ← first, h) r
 
-    pub between-refused : (r : Refusal) → x ≡ Refused r → meeting u n x ≡ between binary64 stored op plain s used e lower upper lowest
+    pub between-refused : (r : Refusal) → x ≡ Refused r → meeting u n x ≡ between binary64 stored op crossing s used e lower upper lowest
     unfolding between afterwards
     between-refused r h = rw (← class, ← first, h)
 
 -- ---- the two neighbours of a segment that leaves
 
-module _ (s : Pool) (used : ℕ) where
-  pub closed-lowest : (lower upper : Link) (n : ℕ) (x : Met) → lower ≡ None → n ≡ used → x ≡ Code 0 → meeting s n x ≡ closeUp binary64 stored plain s used lower upper
+module _ (crossing : Crossing Coordinate) (s : Pool) (used : ℕ) where
+  pub closed-lowest : (lower upper : Link) (n : ℕ) (x : Met) → lower ≡ None → n ≡ used → x ≡ Code 0 → meeting s n x ≡ closeUp binary64 stored crossing s used lower upper
   unfolding closeUp
   closed-lowest lower upper n x h p q = rw (h, p, q)
 
-  pub closed-highest : (lower upper : Link) (b n : ℕ) (x : Met) → lower ≡ To b → upper ≡ None → n ≡ used → x ≡ Code 0 → meeting s n x ≡ closeUp binary64 stored plain s used lower upper
+  pub closed-highest : (lower upper : Link) (b n : ℕ) (x : Met) → lower ≡ To b → upper ≡ None → n ≡ used → x ≡ Code 0 → meeting s n x ≡ closeUp binary64 stored crossing s used lower upper
   unfolding closeUp
   closed-highest lower upper b n x h k p q = rw (h, k, p, q)
 
-  pub closed-met : (lower upper : Link) (a b : ℕ) (y : Meeting Pool) → lower ≡ To a → upper ≡ To b → y ≡ meet binary64 stored plain s used a b → y ≡ closeUp binary64 stored plain s used lower upper
+  pub closed-met : (lower upper : Link) (a b : ℕ) (y : Meeting Pool) → lower ≡ To a → upper ≡ To b → y ≡ meet binary64 stored crossing s used a b → y ≡ closeUp binary64 stored crossing s used lower upper
   unfolding closeUp
   closed-met lower upper a b y h k m = rw (h, k) m
 
 -- ---- places in the status
 
 -- by the key of e, read once
-pub below-is : (s : Pool) (used e x : ℕ) (key : Key Coordinate) (t : Bool) → key ≡ keyUsed stored s used e
-    → t ≡ cond (eqb e x) false (isLess (compareSegments binary64 plain key (keyUsed stored s used x))) → t ≡ isBelow binary64 stored plain s used e x
+pub below-is : (crossing : Crossing Coordinate) (s : Pool) (used e x : ℕ) (key : Key Coordinate) (t : Bool) → key ≡ keyUsed stored s used e
+    → t ≡ cond (eqb e x) false (isLess (compareSegments binary64 crossing key (keyUsed stored s used x))) → t ≡ isBelow binary64 stored crossing s used e x
 unfolding isBelow
-below-is s used e x key t k h = rw (← k) h
+below-is crossing s used e x key t k h = rw (← k) h

@@ -10,19 +10,18 @@ use lib.Dec.{T, eqb, ltb}
 use lib.Ieee as I
 use lib.Ieee.{Float, nan, inf, fin, fits, add, sub, neg, lt, le, eq, ofBits}
 use lib.ListN.{length, take, getD}
-use Rattle.numbers.specs.Binary64.{notFinite, huge}
+use Rattle.numbers.specs.Binary64.{Finite, notFinite, huge}
 use Rattle.numbers.specs.declared.Coordinate.{Coordinate}
-use Rattle.numbers.proofs.Units.{Finite}
 use Rattle.numbers.proofs.Between.{not-below, not-above}
 use Rattle.numbers.proofs.Place.{place, lt-place, le-place}
-use Rattle.events.specs.Binary64.{binary64, plain}
+use Rattle.numbers.proofs.Rising.{Rising, less}
+use Rattle.events.specs.Binary64.{binary64, inMode}
 use Rattle.events.specs.Event.{Key, key as keyFrom}
 use Rattle.events.specs.Pool.{Pool, pool, rowAt, eventOf, stored}
 use Rattle.events.specs.Store.{look}
 use Rattle.order.specs.Keys.{keyOf, keyUsed}
 use Rattle.segments.specs.declared.Ordering.the-variants.{Greater}
 use Rattle.segments.specs.Segments.{compareSegments}
-use Rattle.segments.proofs.Boxes.{Rising, less}
 use Rattle.segments.proofs.Certain.{Held, rising, at-most, lies-above}
 use Rattle.lists.proofs.Slots.{Standing, passed}
 use Rattle.sweep_events.specs.Event.{isLess, isBelow}
@@ -114,24 +113,24 @@ lower-both y a b Y A B t = go (notFinite a) refl (notFinite b) refl (lt a b) ref
         let ba : place b ≤ place a = ltb-false (place a) (place b) (sym (lt-place a b fa fb) ∙ hr) in
         (record { first = Y; second = fa; up = omega (arith, yb .up, ba) }, yb)
 
-module _ (old new : Key Coordinate) (O : Held old) (N : Held new) where
+module _ (mode : ℕ) (old new : Key Coordinate) (O : Held old) (N : Held new) where
   abbrev low : Float
   low = lowerOf (new .point .y) (new .mate .y)
 
   lies-clear : Finite (old .point .x) → Finite (new .point .x) → Finite (old .mate .x) → Finite (old .point .y) → Finite (old .mate .y)
       → lt (old .point .y) low ≡ true → lt (old .mate .y) low ≡ true → le (old .point .x) (new .point .x) ≡ true → lt (new .point .x) (old .mate .x) ≡ true
-      → compareSegments binary64 plain new old ≡ Greater
+      → compareSegments binary64 (inMode mode) new old ≡ Greater
   lies-clear fa fc fb fy fz a b c d =
       let one = lower-both _ _ _ fy (N .y) (N .mate-y) a in
       let two = lower-both _ _ _ fz (N .y) (N .mate-y) b in
       let from = at-most fa fc c in
       let to = rising fc fb d in
-      lies-above old new
+      lies-above mode old new
       (record { wide = record { first = fa; second = fb; up = omega (arith, from, to .up) }; start = fc; from = from; within = omega (arith, to .up) })
       (record { a-c = one .0; a-d = one .1; b-c = two .0; b-d = two .1 })
 
   pub passes : lt (old .point .y) low ≡ true → lt (old .mate .y) low ≡ true → le (old .point .x) (new .point .x) ≡ true → lt (new .point .x) (old .mate .x) ≡ true
-      → lt (neg huge) (add I.binary64 (sub I.binary64 (old .point .x) (old .mate .x)) (add I.binary64 (old .point .y) (old .mate .y))) ≡ true → compareSegments binary64 plain new old ≡ Greater
+      → lt (neg huge) (add I.binary64 (sub I.binary64 (old .point .x) (old .mate .x)) (add I.binary64 (old .point .y) (old .mate .y))) ≡ true → compareSegments binary64 (inMode mode) new old ≡ Greater
   passes a b c d s =
       let all = add-low _ _ (above-low _ _ s) in
       let xs = sub-low _ _ (all .0) in
@@ -285,15 +284,15 @@ module _ (new : Key Coordinate) (N : Held new) (a b c d : Coordinate) (A : Fits 
       let two-h = higher-below _ _ _ cy dy fl (tops .1) in
       let from = higher-most _ _ _ ax cx fn l in
       let to = lower-above _ _ _ bx dx fn r in (
-        (λ left subject ring. lies-clear _ new (record { x = A .x; y = A .y; mate-x = B .x; mate-y = B .y }) N ax fn bx ay by (one-h .0) (one-h .1) (from .0) (to .0)),
-        (λ left subject ring. lies-clear _ new (record { x = C .x; y = C .y; mate-x = D .x; mate-y = D .y }) N cx fn dx cy dy (two-h .0) (two-h .1) (from .1) (to .1)),
+        (λ mode left subject ring. lies-clear mode _ new (record { x = A .x; y = A .y; mate-x = B .x; mate-y = B .y }) N ax fn bx ay by (one-h .0) (one-h .1) (from .0) (to .0)),
+        (λ mode left subject ring. lies-clear mode _ new (record { x = C .x; y = C .y; mate-x = D .x; mate-y = D .y }) N cx fn dx cy dy (two-h .0) (two-h .1) (from .1) (to .1)),
       )
 
 -- ---- a member whose two points were read
 pub read-passed : (p : List (List Float)) (m : List (List ℕ)) (used ready x y : ℕ) (k : Key Coordinate) → Ready (pool p m) used ready → x < ready → y < ready
     → y ≡ mateAt m x → (a b : Coordinate) → a ≡ pointAt p x → b ≡ pointAt p y → Above k a b → Passed (pool p m) used k x
 unfolding keyUsed keyOf look stored rowAt eventOf keyFrom
-read-passed p m used ready x y k r h g e a b ea eb f =
+read-passed p m used ready x y k r h g e a b ea eb f mode =
     let there : Above k (pointAt p x) (pointAt p y) = subst (λ (u : Coordinate). Above k u (pointAt p y)) ea (subst (λ (v : Coordinate). Above k a v) eb f) in
     rw (
       lt-ltb x used (omega (arith, h, r .0)),
@@ -304,7 +303,7 @@ read-passed p m used ready x y k r h g e a b ea eb f =
       lt-ltb y (length p) (omega (arith, g, r .1)),
       lt-ltb y (length m) (omega (arith, g, r .2)),
     )
-    (there _ _ _)
+    (there mode _ _ _)
 
 -- ---- the places passed so far
 pub turned : (t : Bool) → not t ≡ false → t ≡ true
@@ -331,9 +330,9 @@ alike : (t : Bool) → cond t false false ≡ false
 alike true = refl
 alike false = refl
 
-not-below-it : (s : Pool) (used e x : ℕ) (key : Key Coordinate) → key ≡ keyUsed stored s used e → Passed s used key x → isBelow binary64 stored plain s used e x ≡ false
+not-below-it : (mode : ℕ) (s : Pool) (used e x : ℕ) (key : Key Coordinate) → key ≡ keyUsed stored s used e → Passed s used key x → isBelow binary64 stored (inMode mode) s used e x ≡ false
 unfolding isBelow isLess
-not-below-it s used e x key k h = rw (← k, h) (alike (eqb e x))
+not-below-it mode s used e x key k h = rw (← k, h mode) (alike (eqb e x))
 
 module _ (test : ℕ → Bool) (s : List ℕ) (n : ℕ) where
   further : (d i : ℕ) → i + d ≤ length (take n s) → ((j : ℕ) → i ≤ j → j < i + d → test (getD s j 0) ≡ false) → Standing test s n i → Standing test s n (i + d)
@@ -348,7 +347,7 @@ module _ (test : ℕ → Bool) (s : List ℕ) (n : ℕ) where
       let all : i + (r - i) ≡ r = omega arith in
       subst (Standing test s n) all (further (r - i) i (omega arith) (λ j p q. none j p (omega arith)) w)
 
-module _ (p : Pool) (used e : ℕ) (key : Key Coordinate) (own : key ≡ keyUsed stored p used e) (status : List ℕ) (n : ℕ) where
+module _ (mode : ℕ) (p : Pool) (used e : ℕ) (key : Key Coordinate) (own : key ≡ keyUsed stored p used e) (status : List ℕ) (n : ℕ) where
   pub after-passed : (i r : ℕ) → i ≤ r → r ≤ length (take n status) → AllPassed p used key status i r
-      → Standing (isBelow binary64 stored plain p used e) status n i → Standing (isBelow binary64 stored plain p used e) status n r
-  after-passed i r h k all w = skipped (isBelow binary64 stored plain p used e) status n i r h k (λ j a b. not-below-it p used e _ key own (all j a b)) w
+      → Standing (isBelow binary64 stored (inMode mode) p used e) status n i → Standing (isBelow binary64 stored (inMode mode) p used e) status n r
+  after-passed i r h k all w = skipped (isBelow binary64 stored (inMode mode) p used e) status n i r h k (λ j a b. not-below-it mode p used e _ key own (all j a b)) w

@@ -1,6 +1,6 @@
 // New neighbours in the status meet.
 ghost use mathlib.Core.Path.{_≡_};
-ghost use Rattle.events.specs.Binary64.{binary64, plain};
+ghost use Rattle.events.specs.Binary64.{binary64, inMode};
 ghost use Rattle.events.specs.Pool.{pool, stored};
 ghost use Rattle.neighbours.specs.declared.Met.the-variants.{Code};
 ghost use Rattle.neighbours.specs.Neighbours.{meeting};
@@ -33,13 +33,14 @@ fn with_upper(
     lower: Link,
     upper: Link,
     operation: Operation,
+    mode: u32,
 ) -> Neighbours
-    ensures { λ r. ⌜ meeting (pool (now (points .exit)) (now (marks .exit))) (r .used) (r .met) ≡ withUpper binary64 stored operation plain (pool (now (points .entry)) (now (marks .entry))) used e lower upper ⌝ }
+    ensures { λ r. ⌜ meeting (pool (now (points .exit)) (now (marks .exit))) (r .used) (r .met) ≡ withUpper binary64 stored operation (inMode mode) (pool (now (points .entry)) (now (marks .entry))) used e lower upper ⌝ }
 {
     match upper {
         Link::None => alone(used),
         Link::To(n) => {
-            let m = possible_intersection(points, marks, used, e, n);
+            let m = possible_intersection(points, marks, used, e, n, mode);
             reclass(points, marks, m, e, lower, n, operation)
         }
     }
@@ -54,13 +55,14 @@ fn with_lower(
     lower: Link,
     lowest: Link,
     operation: Operation,
+    mode: u32,
 ) -> Neighbours
-    ensures { λ r. ⌜ meeting (pool (now (points .exit)) (now (marks .exit))) (r .used) (r .met) ≡ withLower binary64 stored operation plain (pool (now (points .entry)) (now (marks .entry))) used e lower lowest ⌝ }
+    ensures { λ r. ⌜ meeting (pool (now (points .exit)) (now (marks .exit))) (r .used) (r .met) ≡ withLower binary64 stored operation (inMode mode) (pool (now (points .entry)) (now (marks .entry))) used e lower lowest ⌝ }
 {
     match lower {
         Link::None => alone(used),
         Link::To(p) => {
-            let m = possible_intersection(points, marks, used, p, e);
+            let m = possible_intersection(points, marks, used, p, e, mode);
             reclass(points, marks, m, p, lowest, e, operation)
         }
     }
@@ -76,14 +78,15 @@ pub fn between(
     upper: Link,
     lowest: Link,
     operation: Operation,
+    mode: u32,
 ) -> Neighbours
-    ensures { λ r. ⌜ meeting (pool (now (points .exit)) (now (marks .exit))) (r .used) (r .met) ≡ Spec.between binary64 stored operation plain (pool (now (points .entry)) (now (marks .entry))) used e lower upper lowest ⌝ }
+    ensures { λ r. ⌜ meeting (pool (now (points .exit)) (now (marks .exit))) (r .used) (r .met) ≡ Spec.between binary64 stored operation (inMode mode) (pool (now (points .entry)) (now (marks .entry))) used e lower upper lowest ⌝ }
 {
     classify(points, marks, used, e, lower, operation);
-    let m = with_upper(points, marks, used, e, lower, upper, operation);
+    let m = with_upper(points, marks, used, e, lower, upper, operation, mode);
     let met = m.met;
     match met {
-        Met::Code(_) => with_lower(points, marks, m.used, e, lower, lowest, operation),
+        Met::Code(_) => with_lower(points, marks, m.used, e, lower, lowest, operation, mode),
         Met::Refused(_) => m,
     }
 }
@@ -95,14 +98,15 @@ pub fn close_up(
     used: u32,
     lower: Link,
     upper: Link,
+    mode: u32,
 ) -> Neighbours
-    ensures { λ r. ⌜ meeting (pool (now (points .exit)) (now (marks .exit))) (r .used) (r .met) ≡ Spec.closeUp binary64 stored plain (pool (now (points .entry)) (now (marks .entry))) used lower upper ⌝ }
+    ensures { λ r. ⌜ meeting (pool (now (points .exit)) (now (marks .exit))) (r .used) (r .met) ≡ Spec.closeUp binary64 stored (inMode mode) (pool (now (points .entry)) (now (marks .entry))) used lower upper ⌝ }
 {
     match lower {
         Link::None => alone(used),
         Link::To(p) => match upper {
             Link::None => alone(used),
-            Link::To(n) => possible_intersection(points, marks, used, p, n),
+            Link::To(n) => possible_intersection(points, marks, used, p, n, mode),
         },
     }
 }

@@ -3,7 +3,7 @@ ghost use mathlib.Core.Path.{_≡_};
 ghost use mathlib.Core.Bool.{Bool, cond};
 ghost use lib.Dec.{eqb};
 ghost use lib.ListN.{take};
-ghost use Rattle.events.specs.Binary64.{binary64, plain};
+ghost use Rattle.events.specs.Binary64.{binary64, inMode};
 ghost use Rattle.events.specs.Pool.{pool, stored};
 ghost use Rattle.order.specs.Keys.{shownKey, keyUsed};
 ghost use Rattle.segments.specs.Segments.{compareSegments};
@@ -29,13 +29,21 @@ fn is_less(ordering: Ordering) -> bool
 }
 
 // Left record e, whose key this is, compares less than member x.
-fn is_below(points: &[[f64; 2]], marks: &[[u32; 12]], used: u32, e: u32, key: Key, x: u32) -> bool
-    ensures { λ r. ⌜ r ≡ cond (eqb e x) Bool.false (isLess (compareSegments binary64 plain (shownKey key) (keyUsed stored (pool (now (points .entry)) (now (marks .entry))) used x))) ⌝ }
+fn is_below(
+    points: &[[f64; 2]],
+    marks: &[[u32; 12]],
+    used: u32,
+    e: u32,
+    key: Key,
+    x: u32,
+    mode: u32,
+) -> bool
+    ensures { λ r. ⌜ r ≡ cond (eqb e x) Bool.false (isLess (compareSegments binary64 (inMode mode) (shownKey key) (keyUsed stored (pool (now (points .entry)) (now (marks .entry))) used x))) ⌝ }
 {
     if e == x {
         return false;
     }
-    is_less(compare_segments(key, key_used(points, marks, used, x)))
+    is_less(compare_segments(key, key_used(points, marks, used, x), mode))
 }
 
 // The place in the status, which may be the one behind its last.
@@ -46,8 +54,9 @@ pub fn slot_below(
     status: &[u32],
     n: usize,
     e: u32,
+    mode: u32,
 ) -> usize
-    ensures { λ r. ⌜ r ≡ slot (isBelow binary64 stored plain (pool (now (points .entry)) (now (marks .entry))) used e) (take n (now (status .entry))) ⌝ }
+    ensures { λ r. ⌜ r ≡ slot (isBelow binary64 stored (inMode mode) (pool (now (points .entry)) (now (marks .entry))) used e) (take n (now (status .entry))) ⌝ }
 {
     let key = key_used(points, marks, used, e);
     let low = lower_of(key.point.y, key.mate.y);
@@ -56,7 +65,7 @@ pub fn slot_below(
     // most members lie clear below: only the others are compared
     let mut i = after_clear(points, marks, used, ready, key, low, status, end, 0);
     while i < end {
-        if is_below(points, marks, used, e, key, status[i]) {
+        if is_below(points, marks, used, e, key, status[i], mode) {
             return i;
         }
         i = after_clear(points, marks, used, ready, key, low, status, end, i + 1);

@@ -1,4 +1,4 @@
--- The theorem at binary64, with the crossing that the code computes, about the two calls on lent arrays: no hypothesis is left but 01's.
+-- The theorem at binary64, with the crossing that the code computes in any mode, about the two calls on lent arrays: no hypothesis is left but 01's.
 use mathlib.Core.Path.{_≡_, refl, sym, ap, ap₂, _∙_, subst}
 use mathlib.Core.Bool.{false}
 use mathlib.Core.List.{List}
@@ -9,7 +9,7 @@ use lib.Ieee.{Float}
 use borrow.Author.Tests.{eq-eqb, le-ltb}
 use Rattle.refusals.specs.declared.Refusal.{Refusal}
 use Rattle.numbers.specs.declared.Coordinate.{Coordinate}
-use Rattle.events.specs.Binary64.{binary64, plain}
+use Rattle.events.specs.Binary64.{binary64, inMode}
 use Rattle.events.specs.Pool.{Pool, size, rowAt, stored}
 use Rattle.events.proofs.Stored.{pool-stored}
 use Rattle.events.proofs.Looks.{pool-blanks}
@@ -109,11 +109,11 @@ module _ (ends : List (List Float)) (labels : List (List ℕ)) (p : Pool) where
 -- ---- two loadings
 
 -- both parts of the sentence, of pools that hold n records
-record Both (op : Operation) (n : ℕ) (p : Pool) (taken : List ℕ) (p′ : Pool) (taken′ : List ℕ) : Type 0 where
-  runs : OnlyNumbers binary64 stored plain op n p p′
-  calls : SameAfter (runs .renaming .to) p taken (subdividePool op p n taken) p′ taken′ (subdividePool op p′ n taken′)
+record Both (op : Operation) (mode n : ℕ) (p : Pool) (taken : List ℕ) (p′ : Pool) (taken′ : List ℕ) : Type 0 where
+  runs : OnlyNumbers binary64 stored (inMode mode) op n p p′
+  calls : SameAfter (runs .renaming .to) p taken (subdividePool op mode p n taken) p′ taken′ (subdividePool op mode p′ n taken′)
 
-module _ (op : Operation) (ends : List (List Float)) (labels : List (List ℕ)) (p : Pool) (taken : List ℕ)
+module _ (op : Operation) (mode : ℕ) (ends : List (List Float)) (labels : List (List ℕ)) (p : Pool) (taken : List ℕ)
     (ends′ : List (List Float)) (labels′ : List (List ℕ)) (p′ : Pool) (taken′ : List ℕ) (o : Reordered ends labels ends′ labels′) (s : SameSize p taken p′ taken′) where
   abbrev l₁ : List (Edge Coordinate)
   l₁ = edgesOf ends labels
@@ -141,18 +141,18 @@ module _ (op : Operation) (ends : List (List Float)) (labels : List (List ℕ)) 
     accepted-too =
         rw (o .as-many-ends, o .as-many-labels, s .points, s .marks, sized ends labels p h, roomy ends labels p h) (any-order binary64 (o .edges) (accepted ends labels p h .each))
 
-    run-tied : subdividePool op q₁ (2 * length l₁) taken .answer .tied ≡ subdivide binary64 stored plain op q₁ (2 * length l₁) .tied
+    run-tied : subdividePool op mode q₁ (2 * length l₁) taken .answer .tied ≡ subdivide binary64 stored (inMode mode) op q₁ (2 * length l₁) .tied
     unfolding afterRun answerOf
-    run-tied = ap (λ (a : After). a .answer .tied) (called op (2 * length l₁) q₁ taken (accepts ends labels p h taken (s .takes)))
+    run-tied = ap (λ (a : After). a .answer .tied) (called op mode (2 * length l₁) q₁ taken (accepts ends labels p h taken (s .takes)))
 
-    both : subdivide binary64 stored plain op q₁ (2 * length l₁) .tied ≡ false → Both op (2 * length l₁) q₁ taken q₂ taken′
+    both : subdivide binary64 stored (inMode mode) op q₁ (2 * length l₁) .tied ≡ false → Both op mode (2 * length l₁) q₁ taken q₂ taken′
     unfolding stored
     both u =
-        let runs = order-free move-laws pool-stored pool-blanks plain op (o .edges) p p′ same-size (room ends labels p h) (accepted ends labels p h .each) u in
+        let runs = order-free move-laws pool-stored pool-blanks (inMode mode) op (o .edges) p p′ same-size (room ends labels p h) (accepted ends labels p h .each) u in
         record {
           runs = runs;
           calls =
-              same-calls op (2 * length l₁) (runs .renaming .to) q₁ q₂ taken taken′ (accepts ends labels p h taken (s .takes))
+              same-calls op mode (2 * length l₁) (runs .renaming .to) q₁ q₂ taken taken′ (accepts ends labels p h taken (s .takes))
               (subst (λ n. accept q₂ n taken′ ≡ Passed) as-many-records (accepts ends′ labels′ p′ accepted-too taken′ (s .takes′)))
               (good ends labels p h)
               (subst (Good binary64 stored q₂) as-many-records (good ends′ labels′ p′ accepted-too))
@@ -161,17 +161,17 @@ module _ (op : Operation) (ends : List (List Float)) (labels : List (List ℕ)) 
 
   -- the same of n and of pools that are these
   module _ (n : ℕ) (q q′ : Pool) (k : n ≡ 2 * length l₁) (e : q ≡ q₁) where
-    both-at : q′ ≡ q₂ → Loading.accept ends labels p ≡ Passed → subdivide binary64 stored plain op q n .tied ≡ false → Both op n q taken q′ taken′
+    both-at : q′ ≡ q₂ → Loading.accept ends labels p ≡ Passed → subdivide binary64 stored (inMode mode) op q n .tied ≡ false → Both op mode n q taken q′ taken′
     both-at e′ h u = rw (k, e, e′) (both h (rw (k, e) at u))
 
-    told-at : Loading.accept ends labels p ≡ Passed → subdividePool op q n taken .answer .tied ≡ subdivide binary64 stored plain op q n .tied
+    told-at : Loading.accept ends labels p ≡ Passed → subdividePool op mode q n taken .answer .tied ≡ subdivide binary64 stored (inMode mode) op q n .tied
     told-at h = rw (k, e) (run-tied h)
 
   module _ (n : ℕ) (h : load ends labels p .answer ≡ Done n) where
     abbrev pool : Pool
     pool = load ends labels p .pool
 
-    by-run : subdivide binary64 stored plain op pool n .tied ≡ false → OrderFreeCalls op n ends labels p taken ends′ labels′ p′ taken′
+    by-run : subdivide binary64 stored (inMode mode) op pool n .tied ≡ false → OrderFreeCalls op mode n ends labels p taken ends′ labels′ p′ taken′
     by-run u =
         let a = tells ends labels p n h in
         let first = loads ends labels p (a .passed) in
@@ -180,12 +180,12 @@ module _ (op : Operation) (ends : List (List Float)) (labels : List (List ℕ)) 
         record { loads = ap (λ (b : Loading.After). b .answer) second ∙ ap Done (as-many-records ∙ sym (a .records)); runs = x .runs; calls = x .calls }
 
     -- the sweep's own answer certifies a sheet
-    pub order-of-loading : subdividePool op pool n taken .answer .tied ≡ false → OrderFreeCalls op n ends labels p taken ends′ labels′ p′ taken′
+    pub order-of-loading : subdividePool op mode pool n taken .answer .tied ≡ false → OrderFreeCalls op mode n ends labels p taken ends′ labels′ p′ taken′
     order-of-loading u =
         let a = tells ends labels p n h in
         let first = loads ends labels p (a .passed) in
         by-run (sym (told-at n pool pool (a .records) (ap (λ (b : Loading.After). b .pool) first) (a .passed)) ∙ u)
 
     -- 01's sentence
-    pub sentence : NeverTie binary64 stored plain op pool n → OrderFreeCalls op n ends labels p taken ends′ labels′ p′ taken′
-    sentence t = by-run (never-tie plain op pool n t)
+    pub sentence : NeverTie binary64 stored (inMode mode) op pool n → OrderFreeCalls op mode n ends labels p taken ends′ labels′ p′ taken′
+    sentence t = by-run (never-tie (inMode mode) op pool n t)

@@ -6,7 +6,7 @@ use Prim.Native.Nat.{ℕ, suc, _-_, _/_}
 use lib.ListN.{length, getD, length-map}
 use lib.Seq.{sets, getD-set-other}
 use Rattle.numbers.specs.declared.Coordinate.{Coordinate}
-use Rattle.events.specs.Binary64.{binary64, plain}
+use Rattle.events.specs.Binary64.{binary64, inMode}
 use Rattle.events.specs.Event.{Event}
 use Rattle.events.specs.Pool.{Pool, pointOf, marksOf, store, size, stored}
 use Rattle.events.proofs.Stored.{pool-stored}
@@ -35,12 +35,12 @@ marks-away : (p : Pool) (i j : ℕ) (e : Event Coordinate) → j ≢ i → getD 
 unfolding stored store
 marks-away p i j e d = getD-set-other (p .marks) i j (marksOf e) [] d
 
-rest-as-lent : (op : Operation) (p : Pool) (n : ℕ) → Good binary64 stored p n → AsLent (subdivide binary64 stored plain op p n .used) p (subdivide binary64 stored plain op p n .store)
+rest-as-lent : (op : Operation) (mode : ℕ) (p : Pool) (n : ℕ) → Good binary64 stored p n → AsLent (subdivide binary64 stored (inMode mode) op p n .used) p (subdivide binary64 stored (inMode mode) op p n .store)
 unfolding subdivide after
-rest-as-lent op p n g =
+rest-as-lent op mode p n g =
     record {
-      points = unused move-laws pool-stored pool-blanks plain op (λ q r. getD (q .points) r []) points-away p n g (suc (stored .size p));
-      marks = unused move-laws pool-stored pool-blanks plain op (λ q r. getD (q .marks) r []) marks-away p n g (suc (stored .size p));
+      points = unused move-laws pool-stored pool-blanks (inMode mode) op (λ q r. getD (q .points) r []) points-away p n g (suc (stored .size p));
+      marks = unused move-laws pool-stored pool-blanks (inMode mode) op (λ q r. getD (q .marks) r []) marks-away p n g (suc (stored .size p));
     }
 
 -- ---- the answer
@@ -68,14 +68,14 @@ module _ (ρ : ℕ → ℕ) (n : ℕ) (s s′ : State Pool) (b : SameBut stored 
 
 -- ---- the calls, where the checks pass
 
-module _ (op : Operation) (n : ℕ) where
-  pub called : (p : Pool) (lent : List ℕ) → accept p n lent ≡ Passed → subdividePool op p n lent ≡ afterRun (subdivide binary64 stored plain op p n) n lent
+module _ (op : Operation) (mode n : ℕ) where
+  pub called : (p : Pool) (lent : List ℕ) → accept p n lent ≡ Passed → subdividePool op mode p n lent ≡ afterRun (subdivide binary64 stored (inMode mode) op p n) n lent
   unfolding subdividePool afterChecks
-  called p lent h = ap (λ c. afterChecks c op p n lent) h
+  called p lent h = ap (λ c. afterChecks c op mode p n lent) h
 
   pub same-calls : (ρ : ℕ → ℕ) (p p′ : Pool) (lent lent′ : List ℕ) → accept p n lent ≡ Passed → accept p′ n lent′ ≡ Passed → Good binary64 stored p n → Good binary64 stored p′ n
-      → SameBut stored ρ (subdivide binary64 stored plain op p n) (subdivide binary64 stored plain op p′ n) → SameAfter ρ p lent (subdividePool op p n lent) p′ lent′ (subdividePool op p′ n lent′)
+      → SameBut stored ρ (subdivide binary64 stored (inMode mode) op p n) (subdivide binary64 stored (inMode mode) op p′ n) → SameAfter ρ p lent (subdividePool op mode p n lent) p′ lent′ (subdividePool op mode p′ n lent′)
   same-calls ρ p p′ lent lent′ h h′ g g′ b =
-      let x = same-after ρ n _ _ b p p′ lent lent′ (rest-as-lent op p n g) (rest-as-lent op p′ n g′) in
-      subst (λ (a′ : After). SameAfter ρ p lent (subdividePool op p n lent) p′ lent′ a′) (sym (called p′ lent′ h′))
-      (subst (λ (a : After). SameAfter ρ p lent a p′ lent′ (afterRun (subdivide binary64 stored plain op p′ n) n lent′)) (sym (called p lent h)) x)
+      let x = same-after ρ n _ _ b p p′ lent lent′ (rest-as-lent op mode p n g) (rest-as-lent op mode p′ n g′) in
+      subst (λ (a′ : After). SameAfter ρ p lent (subdividePool op mode p n lent) p′ lent′ a′) (sym (called p′ lent′ h′))
+      (subst (λ (a : After). SameAfter ρ p lent a p′ lent′ (afterRun (subdivide binary64 stored (inMode mode) op p′ n) n lent′)) (sym (called p lent h)) x)

@@ -1,11 +1,11 @@
--- 01's sentence about the two calls, loading and the sweep, on lent arrays at binary64.
+-- 01's sentence about the two calls, loading and the sweep, on lent arrays at binary64, in any mode of crossing.
 use mathlib.Core.Path.{_≡_}
 use mathlib.Core.List.{List, [], map, List·Permᴰ}
 use Prim.Native.Nat.{ℕ, _<_, _≤_}
 use lib.ListN.{length, getD}
 use lib.Seq.{sets}
 use lib.Ieee.{Float}
-use Rattle.events.specs.Binary64.{binary64, plain}
+use Rattle.events.specs.Binary64.{binary64, inMode}
 use Rattle.events.specs.Renaming.{rename}
 use Rattle.events.specs.Pool.{Pool, rowAt, stored}
 use Rattle.class.specs.declared.Operation.{Operation}
@@ -61,9 +61,9 @@ pub record SameAfter (ρ : ℕ → ℕ) (p : Pool) (lent : List ℕ) (a : After)
 -- ---- the sentence
 
 -- Edges that were loaded, n records in all, load in another order too; the runs are the same but for names, step by step; and so are the calls.
-pub record OrderFreeCalls (op : Operation) (n : ℕ) (ends : List (List Float)) (labels : List (List ℕ)) (p : Pool) (taken : List ℕ)
+pub record OrderFreeCalls (op : Operation) (mode n : ℕ) (ends : List (List Float)) (labels : List (List ℕ)) (p : Pool) (taken : List ℕ)
     (ends′ : List (List Float)) (labels′ : List (List ℕ)) (p′ : Pool) (taken′ : List ℕ) : Type 0 where
   pub loads : load ends′ labels′ p′ .answer ≡ Loaded n
-  pub runs : OnlyNumbers binary64 stored plain op n (load ends labels p .pool) (load ends′ labels′ p′ .pool)
-  pub calls : SameAfter (runs .renaming .to) (load ends labels p .pool) taken (subdividePool op (load ends labels p .pool) n taken)
-      (load ends′ labels′ p′ .pool) taken′ (subdividePool op (load ends′ labels′ p′ .pool) n taken′)
+  pub runs : OnlyNumbers binary64 stored (inMode mode) op n (load ends labels p .pool) (load ends′ labels′ p′ .pool)
+  pub calls : SameAfter (runs .renaming .to) (load ends labels p .pool) taken (subdividePool op mode (load ends labels p .pool) n taken)
+      (load ends′ labels′ p′ .pool) taken′ (subdividePool op mode (load ends′ labels′ p′ .pool) n taken′)

@@ -9,7 +9,7 @@ use lib.Seq.{length-take-le}
 use lib.Ieee.{Float}
 use borrow.Author.Tests.{eq-eqb, le-ltb}
 use Rattle.numbers.specs.declared.Coordinate.{Coordinate}
-use Rattle.events.specs.Binary64.{binary64, plain}
+use Rattle.events.specs.Binary64.{binary64, inMode}
 use Rattle.events.specs.Pool.{Pool, size, rowAt, stored}
 use Rattle.events.proofs.Stored.{pool-stored}
 use Rattle.class.specs.declared.Operation.{Operation}
@@ -69,7 +69,7 @@ sizes-pass : (points marks taken k : ℕ) → marks ≡ points → taken ≡ poi
 unfolding sizes missized
 sizes-pass points marks taken k e f few room = rw (e, f, eq-eqb points points refl, le-ltb maxEvents points few, le-ltb points k room)
 
-module _ (op : Operation) (n : ℕ) (p : Pool) (k : ℕ) (taken : List ℕ) (a : Larger n p taken) (in-first : k ≤ n) where
+module _ (op : Operation) (mode n : ℕ) (p : Pool) (k : ℕ) (taken : List ℕ) (a : Larger n p taken) (in-first : k ≤ n) where
   wide : n ≤ size p
   wide = wide-pool n p (a .within) (a .marks)
 
@@ -89,17 +89,17 @@ module _ (op : Operation) (n : ℕ) (p : Pool) (k : ℕ) (taken : List ℕ) (a :
       ap (λ (t : State Pool). afterRun t k (take n taken)) e
       ∙ ap (Sweeps.after (answerOf s k) (firstPlaces n (s .store))) (take-sets n taken 0 (s .taken))
 
-  after-first : (c : Check) → wantsRoom (afterChecks c op (firstPlaces n p) k (take n taken) .answer .outcome) ≡ false
-      → afterChecks c op (firstPlaces n p) k (take n taken) ≡ firstOfSwept n (afterChecks c op p k taken)
+  after-first : (c : Check) → wantsRoom (afterChecks c op mode (firstPlaces n p) k (take n taken) .answer .outcome) ≡ false
+      → afterChecks c op mode (firstPlaces n p) k (take n taken) ≡ firstOfSwept n (afterChecks c op mode p k taken)
   unfolding afterChecks afterRun answerOf asLent firstOfSwept pool-front stored
   after-first Passed h =
-      after-run _ _ (subdivide-front binary64 pool-stored (pool-front n) plain op p k (record { wide = wide; fits = in-first }) (sym (stop-wants _) ∙ h))
+      after-run _ _ (subdivide-front binary64 pool-stored (pool-front n) (inMode mode) op p k (record { wide = wide; fits = in-first }) (sym (stop-wants _) ∙ h))
   after-first (Struck r) h = refl
 
-pub sweep-room : (op : Operation) (n : ℕ) (p : Pool) (k : ℕ) (taken : List ℕ) → Larger n p taken → k ≤ n
-    → wantsRoom (subdividePool op (firstPlaces n p) k (take n taken) .answer .outcome) ≡ false
-    → subdividePool op (firstPlaces n p) k (take n taken) ≡ firstOfSwept n (subdividePool op p k taken)
+pub sweep-room : (op : Operation) (mode n : ℕ) (p : Pool) (k : ℕ) (taken : List ℕ) → Larger n p taken → k ≤ n
+    → wantsRoom (subdividePool op mode (firstPlaces n p) k (take n taken) .answer .outcome) ≡ false
+    → subdividePool op mode (firstPlaces n p) k (take n taken) ≡ firstOfSwept n (subdividePool op mode p k taken)
 unfolding subdividePool
-sweep-room op n p k taken a in-first h =
-    let same = same-check op n p k taken a in-first in
-    rw same (after-first op n p k taken a in-first (accept p k taken) (rw same at h))
+sweep-room op mode n p k taken a in-first h =
+    let same = same-check op mode n p k taken a in-first in
+    rw same (after-first op mode n p k taken a in-first (accept p k taken) (rw same at h))

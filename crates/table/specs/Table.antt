@@ -1,15 +1,18 @@
--- 01, 'Checked by hand (P: to be proved)': P1 to P11. Each row is about the definition that the public call is proved equal to.
+-- 01, 'Checked by hand (P: to be proved)': P1 to P11, in a mode of crossing (02, #102). Each row is about the definition that the public call is proved
+-- equal to.
 use mathlib.Core.Path.{_≡_}
-use mathlib.Core.Bool.{true, false}
+use mathlib.Core.Bool.{true, false, cond}
 use mathlib.Core.List.{List, [], _∷_}
 use Prim.Native.Nat.{ℕ, zero as nought, suc}
+use lib.Dec.{eqb}
 use lib.IntN.{pos, negsuc}
 use lib.Ieee.{Float, fin}
 use Rattle.numbers.specs.declared.Coordinate.{Coordinate}
 use Rattle.orientation.specs.declared.Sign.the-variants.{Negative}
 use Rattle.orientation.specs.Orientation.{signedArea}
 use Rattle.crossing.specs.declared.LineIntersection.{LineIntersection}
-use Rattle.crossing.specs.Crossing.{intersectionOf}
+use Rattle.crossing.specs.Crossing.{intersectionIn}
+use Rattle.crossing.specs.Modes.{plain, ordered}
 use Rattle.crossing.specs.Answer.{numberOf, valuesOf}
 use Rattle.division.specs.Worked as Division
 
@@ -41,23 +44,34 @@ pub record Is (found : LineIntersection) (number : ℕ) (values : List Float) : 
   pub number-is : numberOf found ≡ number
   pub values-are : valuesOf found ≡ values
 
-pub record Table : Type 0 where
+-- P4 alone depends on the mode: where the segments change places, it is P5
+abbrev pub P4-number : ℕ → ℕ
+P4-number mode = cond (eqb mode plain) 0 2
+
+abbrev pub P4-values : ℕ → List Float
+P4-values mode = cond (eqb mode plain) [] (one ∷ one ∷ one ∷ one ∷ [])
+
+pub record Crossings (mode : ℕ) : Type 0 where
   -- (0,0)-(2,2) with (0,2)-(2,0): Point (1,1)
-  pub P1 : Is (intersectionOf (at zero zero) (at two two) (at zero two) (at two zero)) 1 (one ∷ one ∷ [])
+  pub P1 : Is (intersectionIn mode (at zero zero) (at two two) (at zero two) (at two zero)) 1 (one ∷ one ∷ [])
   -- (0,0)-(1,0) with (1,0)-(2,0): Point (1,0)
-  pub P2 : Is (intersectionOf (at zero zero) (at one zero) (at one zero) (at two zero)) 1 (one ∷ zero ∷ [])
+  pub P2 : Is (intersectionIn mode (at zero zero) (at one zero) (at one zero) (at two zero)) 1 (one ∷ zero ∷ [])
   -- (0,0)-(2,0) with (1,0)-(3,0): Overlap (1,0), (2,0)
-  pub P3 : Is (intersectionOf (at zero zero) (at two zero) (at one zero) (at three zero)) 2 (one ∷ zero ∷ two ∷ zero ∷ [])
-  -- (1,1)-(1,1) with (0,0)-(2,2): 0/0, None
-  pub P4 : Is (intersectionOf (at one one) (at one one) (at zero zero) (at two two)) 0 []
+  pub P3 : Is (intersectionIn mode (at zero zero) (at two zero) (at one zero) (at three zero)) 2 (one ∷ zero ∷ two ∷ zero ∷ [])
+  -- (1,1)-(1,1) with (0,0)-(2,2): plain 0/0, None; ordered as P5
+  pub P4 : Is (intersectionIn mode (at one one) (at one one) (at zero zero) (at two two)) (P4-number mode) (P4-values mode)
   -- the other way round: Overlap (1,1), (1,1)
-  pub P5 : Is (intersectionOf (at zero zero) (at two two) (at one one) (at one one)) 2 (one ∷ one ∷ one ∷ one ∷ [])
+  pub P5 : Is (intersectionIn mode (at zero zero) (at two two) (at one one) (at one one)) 2 (one ∷ one ∷ one ∷ one ∷ [])
   -- (0,0)-(2,2) with (0,1)-(2,3): None
-  pub P6 : Is (intersectionOf (at zero zero) (at two two) (at zero one) (at two three)) 0 []
+  pub P6 : Is (intersectionIn mode (at zero zero) (at two two) (at zero one) (at two three)) 0 []
   -- d = 2^-300, (0,0)-(d,d) with (0,d)-(d,0): the squares vanish, Overlap of (d/2,d/2) twice
-  pub P7 : Is (intersectionOf (at zero zero) (at (small 300) (small 300)) (at zero (small 300)) (at (small 300) zero)) 2 (small 301 ∷ small 301 ∷ small 301 ∷ small 301 ∷ [])
+  pub P7 : Is (intersectionIn mode (at zero zero) (at (small 300) (small 300)) (at zero (small 300)) (at (small 300) zero)) 2 (small 301 ∷ small 301 ∷ small 301 ∷ small 301 ∷ [])
   -- (-2^1023,0)-(2^1023,0) with (0,-1)-(0,1): Lost
-  pub P8 : Is (intersectionOf (at (fin true 1 (pos 1023)) zero) (at (fin false 1 (pos 1023)) zero) (at zero (fin true 1 (pos 0))) (at zero one)) 3 []
+  pub P8 : Is (intersectionIn mode (at (fin true 1 (pos 1023)) zero) (at (fin false 1 (pos 1023)) zero) (at zero (fin true 1 (pos 0))) (at zero one)) 3 []
+
+pub record Table : Type 0 where
+  pub plainly : Crossings plain
+  pub in-order : Crossings ordered
   -- orientation of (1,1), (2,2), (2^-60,0): negative
   pub P9 : signedArea (at one one) (at two two) (at (small 60) zero) ≡ Negative
   -- (0,1)-(4,0) cut at (0,0.5): the cut becomes (2^-1074,0.5)

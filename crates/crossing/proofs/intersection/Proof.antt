@@ -1,16 +1,15 @@
--- The boxes decide; within the shared box three callees compose to the definition.
-use borrow.Author.Needs.{needs}
-use Rattle.crossing.specs.Crossing.{intersectionOf, inBox}
+-- Nothing where they lie apart; else named as the mode has them, then as they are named.
+use mathlib.Core.Path.{sym}
+use Rattle.crossing.specs.Crossing.{intersectionOfPair, intersectionIn}
 use Rattle.crossing.proofs.intersection.Statement.{statement}
 use Rattle.crossing.proofs.intersection.Tie as tie
 
 returns : tie.Need-returns
-unfolding intersectionOf inBox
-returns c = rw (← c .before .before .get-intersection-bounding-box .ensures, c .enum-told .given .1)
+returns c = sym (c .before .lie-apart .ensures (c .if1 .taken) _)
 
 returns-2 : tie.Need-returns-2
-unfolding intersectionOf inBox
-returns-2 c = rw (← c .before .before .before .before .before .before .get-intersection-bounding-box .ensures, c .before .before .before .before .bb .given .1, c .or-lost .ensures, c .before .constrained .ensures, c .before .before .intersection-impl .ensures)
+unfolding intersectionOfPair intersectionIn
+returns-2 c = rw (c .intersection-of .ensures, c .before .before .before .named-in .ensures)
 
 pub intersection-spec : {M : Type 1} → statement M
-intersection-spec = tie.close (tie.spec (λ c κs. tt) (λ c. search needs) (λ c. search needs) (λ c κs. tt) (λ c κs. tt) (λ c κs. tt) returns returns-2)
+intersection-spec = tie.close (tie.spec (λ c κs. tt) returns (λ c κs. tt) (λ c κs. tt) returns-2)

@@ -1,17 +1,9 @@
--- The case that was matched picks what is told.
-use borrow.Author.Needs.{needs}
-use mathlib.Core.Path.{refl}
-use Rattle.entries.specs.ToldCrossing as Told
+-- What the call answers is told.
 use Rattle.entries.proofs.bezorika_crossing.Statement.{statement}
 use Rattle.entries.proofs.bezorika_crossing.Tie as tie
 
 returns : tie.Need-returns
-unfolding Told.refusal Told.place Told.kind Told.corners
-returns c = rw (← c .before .before .before .crossing .ensures, c .before .why .given .1) (refl, (refl, (refl, refl)))
-
-returns-2 : tie.Need-returns-2
-unfolding Told.refusal Told.place Told.kind Told.corners
-returns-2 c = rw (← c .before .before .before .before .before .before .crossing .ensures, c .before .before .before .before .found .given .1) (refl, (c .tell-crossing .ensures .0, (c .tell-crossing .ensures .1, refl)))
+returns c = rw (← c .before .before .before .before .crossing .ensures) (c .tell-crossed .ensures)
 
 pub bezorika-crossing-spec : {M : Type 1} → statement M
-bezorika-crossing-spec = tie.close (tie.spec (λ c κs. tt) (λ c. search needs) (λ c. search needs) (λ c κs. tt) returns returns-2)
+bezorika-crossing-spec = tie.close (tie.spec (λ c κs. tt) (λ c κs. tt) returns)

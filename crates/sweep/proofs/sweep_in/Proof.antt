@@ -34,15 +34,15 @@ run-requires c κs =
       start-at _ _ _ (first .pre .0) (first .args .queue .now) _ _ _ _ (all-flags _ _ _ _ (a .0) (first .pre .1)) from (filled .requeue .ensures .0) (filled .requeue .ensures .1) (filled .requeue .kept .1 .1 .1 .1 .1 .0) (queue-at-start _ _ _ _ (a .0) (first .pre .1)),
     )
 
-sub-t41 : tie.Need-sub-t41
-sub-t41 c =
+sub-t42 : tie.Need-sub-t42
+sub-t42 c =
     let ran = c .before .before .before .before .before .before .before .before .before .before .before in
     let lined = ran .before in
     let bounds = lined .before .before .before .before .before .before .before .before .before .before .before .before .before .before .before in
     let first = bounds .before .before .before .before .before .before .before in
     let a = accepted _ _ _ (first .pre .0) in
     let from = begun _ _ _ _ (lined .line-up .ensures) (lined .before .start .ensures) in
-    not-fewer _ _ _ _ _ _ _ _ _ (ran .run .result) _ _ _ _ _ _ (places-are _ (a .0)) (bounds .bounds-of .ensures .0) (bounds .bounds-of .ensures .1) (flags-at-start _ _ _ _ (first .pre .1)) (none-yet _ _ _ _ from .0) (none-yet _ _ _ _ from .1) from (ran .run .ensures .0)
+    not-fewer _ _ _ _ _ _ _ _ _ _ (ran .run .result) _ _ _ _ _ _ (places-are _ (a .0)) (bounds .bounds-of .ensures .0) (bounds .bounds-of .ensures .1) (flags-at-start _ _ _ _ (first .pre .1)) (none-yet _ _ _ _ from .0) (none-yet _ _ _ _ from .1) from (ran .run .ensures .0)
 
 queue-kept : tie.Need-same-length-5
 queue-kept c =
@@ -57,7 +57,7 @@ returns c =
     let first = bounds .before .before .before .before .before .before .before in
     let a = accepted _ _ _ (first .pre .0) in
     let from = begun _ _ _ _ (lined .line-up .ensures) (lined .before .start .ensures) in
-    swept-is _ _ _ _ _ _ _ _ _ _ _ _ _ _ _ _ (places-are _ (a .0)) (bounds .bounds-of .ensures .0) (bounds .bounds-of .ensures .1) (flags-at-start _ _ _ _ (first .pre .1)) (none-yet _ _ _ _ from .0) (none-yet _ _ _ _ from .1) from (ran .run .ensures .0) _ _ _ _ refl (c .outcome-of .ensures) (ran .run .ensures .1 .0 .0) (ran .run .ensures .1 .0 .1) (ran .run .kept .1 .1 .1 .1 .1 .0)
+    swept-is _ _ _ _ _ _ _ _ _ _ _ _ _ _ _ _ _ (places-are _ (a .0)) (bounds .bounds-of .ensures .0) (bounds .bounds-of .ensures .1) (flags-at-start _ _ _ _ (first .pre .1)) (none-yet _ _ _ _ from .0) (none-yet _ _ _ _ from .1) from (ran .run .ensures .0) _ _ _ _ refl (c .outcome-of .ensures) (ran .run .ensures .1 .0 .0) (ran .run .ensures .1 .0 .1) (ran .run .kept .1 .1 .1 .1 .1 .0)
 
 pub sweep-in-spec : {M : Type 1} → statement M
-sweep-in-spec = tie.close (tie.spec (λ c κs. tt) slice-reshare-prefix-requeue slice-aggregate-requeue (λ c κs. search needs) slice-relend-prefix-run slice-aggregate-run (λ c κs. tt) (λ c κs. tt) add-run run-requires sub-t41 (λ c κs. tt) (λ c. search needs) (λ c. search needs) (λ c. search needs) (λ c. search needs) queue-kept (λ c. search needs) returns)
+sweep-in-spec = tie.close (tie.spec (λ c κs. tt) slice-reshare-prefix-requeue slice-aggregate-requeue (λ c κs. search needs) slice-relend-prefix-run slice-aggregate-run (λ c κs. tt) (λ c κs. tt) add-run run-requires sub-t42 (λ c κs. tt) (λ c. search needs) (λ c. search needs) (λ c. search needs) (λ c. search needs) queue-kept (λ c. search needs) returns)

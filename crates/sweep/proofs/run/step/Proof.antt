@@ -23,7 +23,7 @@ requeue-requires : tie.Need-requeue-requires
 requeue-requires c κs = queue-room _ _ _ _ (c .before .before .before .before .before .before .before .before .before .before .before .before .before .before .before .before .before .before .before .before .before .before .before .before .before .before .before .before .before .before .before .before .before .before .before .pre .1)
 
 returns : tie.Need-returns
-returns c = (step-none _ _ _ _ _ _ _ _ (c .before .before .before .below-at .ensures ∙ next-at (c .before .before .before .before .before .before .before .before .before .before .pre .1) _ _) _ (c .before .enum-told .given .1) (c .end .ensures), ((fits-ended _ _ (c .end .ensures) _ _ _ (c .before .before .before .before .before .before .before .before .before .before .pre .0), beyond-ended _ _ (c .end .ensures) _), subst (Queues _ _ _) (sym (c .end .ensures)) (ended-at (c .before .before .before .before .before .before .before .before .before .before .pre .1))))
+returns c = (step-none _ _ _ _ _ _ _ _ _ (c .before .before .before .below-at .ensures ∙ next-at (c .before .before .before .before .before .before .before .before .before .before .pre .1) _ _) _ (c .before .enum-told .given .1) (c .end .ensures), ((fits-ended _ _ (c .end .ensures) _ _ _ (c .before .before .before .before .before .before .before .before .before .before .pre .0), beyond-ended _ _ (c .end .ensures) _), subst (Queues _ _ _) (sym (c .end .ensures)) (ended-at (c .before .before .before .before .before .before .before .before .before .before .pre .1))))
 
 returns-2 : tie.Need-returns-2
 returns-2 c =
@@ -41,14 +41,14 @@ returns-2 c =
     let line = c .line-up .ensures in
     let worked = worked-lined _ _ _ line _ (work .ensures .1) in
     let tied = c .before .before .before .before .before .before .before .before .before .before .before .before .before .before .before .before .before .before .before .before .before .before .before .before .ties-with .ensures ∙ ap (tiesWith _ _) (c .before .before .before .before .before .before .before .before .before .before .before .before .before .before .before .before .before .before .before .before .before .before .before .before .before .lowest-at .ensures) ∙ tie-at q l k _ found in
-    let turned = step-some _ _ _ _ _ _ _ _ is _ _ _ _ _ _ _ _ e tied (room .1) (take .0) (take .1 .0) (take .1 .1) (does-lined _ _ _ line _ _ _ _ _ _ (work .ensures .0)) worked in (
+    let turned = step-some _ _ _ _ _ _ _ _ _ is _ _ _ _ _ _ _ _ e tied (room .1) (take .0) (take .1 .0) (take .1 .1) (does-lined _ _ _ line _ _ _ _ _ _ (work .ensures .0)) worked in (
       turned,
       (
         (
           fits-on _ _ _ _ _ (c .before .before .before .before .before .before .before .before .before .before .before .before .before .before .before .before .before .before .before .before .before .before .before .before .before .before .before .before .before .before .before .before .before .before .before .before .before .before .before .pre .0) wait _ _ (take .0) _ _ worked (take .1 .1) _ _ (take .1 .0) (work .kept .1 .1 .0),
           beyond-on _ _ _ _ _ (c .before .before .before .before .before .before .before .before .before .before .before .before .before .before .before .before .before .before .before .before .before .before .before .before .before .before .before .before .before .before .before .before .before .before .before .before .before .before .before .pre .0) wait _ _ (take .0) _ _ worked (take .1 .1),
         ),
-        step-at q l k _ _ _ found _ _ _ _ _ _ turned (queue-lined _ _ _ line _ _ _ _ _ _ (c .before .before .before .requeue .ensures .0)) (within-lined _ _ _ line _ (c .before .before .before .requeue .ensures .1)) (c .before .before .before .requeue .kept .1 .1 .1 .1 .1 .0),
+        step-at q l k _ _ _ _ found _ _ _ _ _ _ turned (queue-lined _ _ _ line _ _ _ _ _ _ (c .before .before .before .requeue .ensures .0)) (within-lined _ _ _ line _ (c .before .before .before .requeue .ensures .1)) (c .before .before .before .requeue .kept .1 .1 .1 .1 .1 .0),
       ),
     )
 

@@ -30,13 +30,13 @@ module _ (c : tie.Start) where
       record { x = subst T (sym (p .0 .1)) tt; y = subst T (sym (p .1 .0 .1)) tt; mate-x = subst T (sym (m .0 .1)) tt; mate-y = subst T (sym (m .1 .0 .1)) tt }
 
 returns : tie.Need-returns
-returns c t left subject ring =
+returns c t mode left subject ring =
     let four = c .before .before .before .before in
     let three = four .before .before .before in
     let two = three .before .before .before in
     let one = two .before .before in
     let s = one .before .before in
-    passes (member s left subject ring) _ (held-old s left subject ring) (held-new s) (rw (s .pre) at (one .if1 .taken)) (rw (s .pre) at (two .if2 .taken)) (three .if3 .taken) (four .if4 .taken) t
+    passes mode (member s left subject ring) _ (held-old s left subject ring) (held-new s) (rw (s .pre) at (one .if1 .taken)) (rw (s .pre) at (two .if2 .taken)) (three .if3 .taken) (four .if4 .taken) t
 
 returns-2 : tie.Need-returns-2
 returns-2 c t = absurd (false≢true t)

@@ -3,7 +3,7 @@ use mathlib.Core.Path.{_≡_}
 use Prim.Native.Nat.{_+_, _-_, _≤_}
 use native.Mathlib.Omega.{arith}
 use lib.ListN.{length, take, length-take}
-use Rattle.events.specs.Binary64.{binary64, plain}
+use Rattle.events.specs.Binary64.{binary64, inMode}
 use Rattle.events.specs.Pool.{pool, stored}
 use Rattle.sweep_events.specs.Event.{isBelow}
 use Rattle.lists.proofs.Slots.{Standing, begun, found, passed, ended}
@@ -13,10 +13,10 @@ use Rattle.sweep_events.proofs.slots.slot_below.Statement.{statement}
 use Rattle.sweep_events.proofs.slots.slot_below.Tie as tie
 
 abbrev Inv-loop : tie.InvT-loop
-Inv-loop points marks used status n e key low ready end i₀ i = (end ≡ length (take n status)) × (end ≤ length status) × (i ≤ end) × Standing (isBelow binary64 stored plain (pool points marks) used e) status n i
+Inv-loop points marks used status n e mode key low ready end i₀ i = (end ≡ length (take n status)) × (end ≤ length status) × (i ≤ end) × Standing (isBelow binary64 stored (inMode mode) (pool points marks) used e) status n i
 
 abbrev μ-loop : tie.MeasureT-loop
-μ-loop points marks used status n e key low ready end i₀ i = end - i
+μ-loop points marks used status n e mode key low ready end i₀ i = end - i
 
 after-clear-requires : tie.Need-after-clear-requires Inv-loop μ-loop
 after-clear-requires c κs =
@@ -31,7 +31,7 @@ loop-holds c =
       c .before .count .ensures,
       omega (arith, q, c .before .count .ensures),
       r .0 .1,
-      after-passed _ _ _ _ (c .before .before .before .before .key-used .ensures) _ _ 0 _ (r .0 .0) (omega (arith, r .0 .1, c .before .count .ensures)) (r .1) (begun _ _ _),
+      after-passed _ _ _ _ _ (c .before .before .before .before .key-used .ensures) _ _ 0 _ (r .0 .0) (omega (arith, r .0 .1, c .before .count .ensures)) (r .1) (begun _ _ _),
     )
 
 mul-is-below : tie.Need-mul-is-below Inv-loop μ-loop
@@ -44,7 +44,7 @@ returns : tie.Need-returns Inv-loop μ-loop
 returns c =
     let b = c .before .before .before .before in
     let l = b .loop in
-    found _ _ _ (l .i) (omega arith) (l .inv .3) (below-is _ _ _ _ _ _ (b .before .before .before .before .before .key-used .ensures) (c .before .is-below .ensures)) (c .if1 .taken)
+    found _ _ _ (l .i) (omega arith) (l .inv .3) (below-is _ _ _ _ _ _ _ (b .before .before .before .before .before .key-used .ensures) (c .before .is-below .ensures)) (c .if1 .taken)
 
 add-after-clear : tie.Need-add-after-clear Inv-loop μ-loop
 add-after-clear c = omega arith
@@ -66,8 +66,8 @@ loop-again c =
       l .inv .0,
       l .inv .1,
       r .0 .1,
-      after-passed _ _ _ _ key _ _ (l .i + 1) _ (r .0 .0) (omega (arith, r .0 .1, l .inv .0)) (r .1)
-          (passed _ _ _ (l .i) (omega arith) (l .inv .3) (below-is _ _ _ _ _ _ key (c .before .before .is-below .ensures)) (c .before .if1 .left)),
+      after-passed _ _ _ _ _ key _ _ (l .i + 1) _ (r .0 .0) (omega (arith, r .0 .1, l .inv .0)) (r .1)
+          (passed _ _ _ (l .i) (omega arith) (l .inv .3) (below-is _ _ _ _ _ _ _ key (c .before .before .is-below .ensures)) (c .before .if1 .left)),
     )
 
 returns-2 : tie.Need-returns-2 Inv-loop μ-loop

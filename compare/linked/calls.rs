@@ -1,6 +1,6 @@
-//! The same calls by the published code, their answers as values that can be compared.
+//! The same calls by the Rust that the module above names, their answers as values that can be compared.
+use super::boolean::leaves::{intersection, signed_area, LineIntersection};
 use crate::entries::Crossed;
-use geo_booleanop::boolean::leaves::{intersection, signed_area, LineIntersection};
 use geo_types::Coordinate;
 use inputs::{Point, Scene};
 

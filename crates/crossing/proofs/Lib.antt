@@ -1,0 +1,6 @@
+-- Laws of crossing.
+pub mod Compared
+pub mod KeepsBits
+pub mod KeepsAnswers
+pub mod Gap
+pub mod Apart
