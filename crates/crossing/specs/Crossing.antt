@@ -1,10 +1,9 @@
 -- Crossing of two segments, a1-a2 and b1-b2 (01, 'Crossing'): named as the mode has them, nothing where their boxes lie apart, else what the lines
 -- have in common, clamped to the shared box, or Lost. It is a computation on binary64, not the exact crossing.
 use mathlib.Core.Bool.{cond}
-use mathlib.Core.List.{List, [], _∷_}
+use mathlib.Core.List.{[], _∷_}
 use Prim.Native.Nat.{ℕ}
 use lib.Dec.{ltb}
-use lib.ListN.{length}
 use lib.Ieee.{Float}
 use Rattle.numbers.specs.Binary64.{firstNotFinite}
 use Rattle.numbers.specs.declared.Coordinate.{Coordinate}
@@ -14,8 +13,8 @@ use Rattle.crossing.specs.declared.boxes.Boxes.{Boxes}
 use Rattle.crossing.specs.declared.boxes.Boxes.the-variants.{Apart, Share}
 use Rattle.crossing.specs.declared.Crossed.{Crossed}
 use Rattle.crossing.specs.declared.Crossed.the-variants.{Refused, Found}
-use Rattle.crossing.specs.Boxes.{sharedBox, constrainedTo, orLost}
 use Rattle.crossing.specs.declared.modes.Pair.{Pair}
+use Rattle.crossing.specs.Boxes.{sharedBox, constrainedTo, orLost}
 use Rattle.crossing.specs.Lines.{intersectionImpl}
 use Rattle.crossing.specs.Modes.{segment, pair, namedIn}
 
