@@ -52,8 +52,11 @@ pub fn intersection(
 ) -> LineIntersection
     ensures { λ r. ⌜ r ≡ intersectionIn mode a1 a2 b1 b2 ⌝ }
 {
-    if quick::lie_apart(a1, a2, b1, b2) {
-        return LineIntersection::None;
+    // As they are named the boxes tell as soon.
+    if mode != PLAIN {
+        if quick::lie_apart(a1, a2, b1, b2) {
+            return LineIntersection::None;
+        }
     }
     let a = Segment { from: a1, to: a2 };
     let b = Segment { from: b1, to: b2 };

@@ -5,7 +5,7 @@ use Rattle.crossing.proofs.intersection.Statement.{statement}
 use Rattle.crossing.proofs.intersection.Tie as tie
 
 returns : tie.Need-returns
-returns c = sym (c .before .lie-apart .ensures (c .if1 .taken) _)
+returns c = sym (c .before .lie-apart .ensures (c .if2 .taken) _)
 
 returns-2 : tie.Need-returns-2
 unfolding intersectionOfPair intersectionIn
