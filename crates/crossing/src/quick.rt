@@ -1,4 +1,4 @@
-// Whether two segments lie apart by plain comparisons, before anything is named or computed: most neighbours do.
+// Whether two segments lie apart by plain comparisons, before anything is put in order or computed: many neighbours do.
 // A test that passes tells that there is no crossing; one that fails tells nothing.
 ghost use mathlib.Core.Path.{_≡_};
 ghost use mathlib.Core.Bool.{true};
