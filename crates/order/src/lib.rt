@@ -24,7 +24,7 @@ pub struct Key {
 }
 
 // Of two ends alike at one point: the lower direction first, then subject before clip.
-fn is_lower(a: Key, b: Key) -> bool
+fn before_by_direction(a: Key, b: Key) -> bool
     ensures { λ r. ⌜ r ≡ byTurn (a .left) (signedArea (a .point) (a .mate) (b .mate)) (byLayer (a .subject) (b .subject)) ⌝ }
 {
     match signed_area(a.point, a.mate, b.mate) {
@@ -53,7 +53,7 @@ pub fn before(a: Key, b: Key) -> bool
     if a.left != b.left {
         return b.left;
     }
-    is_lower(a, b)
+    before_by_direction(a, b)
 }
 
 // The key of a record and its partner's point.

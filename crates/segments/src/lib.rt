@@ -69,7 +69,7 @@ fn is_zero(sign: Sign) -> bool
 }
 
 // Of two segments on one line: subject below clip; in one layer by ring from a shared end, else the older below.
-fn is_alongside(old: Key, new: Key) -> bool
+fn old_is_below_on_line(old: Key, new: Key) -> bool
     ensures { λ r. ⌜ r ≡ alongside binary64 (shownKey old) (shownKey new) ⌝ }
 {
     if old.subject == new.subject {
@@ -82,7 +82,13 @@ fn is_alongside(old: Key, new: Key) -> bool
 }
 
 // By the signs the segments cross: a crossing at the newer one's left end leaves it to its right end.
-fn is_below_by(found: LineIntersection, old: Key, new: Key, left: bool, right: bool) -> bool
+fn old_is_below_by_crossing(
+    found: LineIntersection,
+    old: Key,
+    new: Key,
+    left: bool,
+    right: bool,
+) -> bool
     ensures { λ r. ⌜ r ≡ byCrossing binary64 (crossOf found) (shownKey old) (shownKey new) left right ⌝ }
 {
     match found {
@@ -93,13 +99,13 @@ fn is_below_by(found: LineIntersection, old: Key, new: Key, left: bool, right: b
             }
             left
         }
-        LineIntersection::Overlap(_, _) => is_alongside(old, new),
+        LineIntersection::Overlap(_, _) => old_is_below_on_line(old, new),
         LineIntersection::Lost => left,
     }
 }
 
 // The ends are not all on the older one's line: where they lie decides, or the crossing does.
-fn is_below_apart(old: Key, new: Key, sa_l: Sign, sa_r: Sign, mode: u32) -> bool
+fn old_is_below_off_line(old: Key, new: Key, sa_l: Sign, sa_r: Sign, mode: u32) -> bool
     ensures { λ r. ⌜ r ≡ Segments.apart binary64 (inMode mode) (shownKey old) (shownKey new) «sa_l» «sa_r» ⌝ }
 {
     let left = is_positive(sa_l);
@@ -117,21 +123,21 @@ fn is_below_apart(old: Key, new: Key, sa_l: Sign, sa_r: Sign, mode: u32) -> bool
         return right;
     }
     let found = intersection(mode, old.point, old.mate, new.point, new.mate);
-    is_below_by(found, old, new, left, right)
+    old_is_below_by_crossing(found, old, new, left, right)
 }
 
 // Whether the older segment lies below the newer one.
-fn is_below(old: Key, new: Key, mode: u32) -> bool
+fn old_is_below(old: Key, new: Key, mode: u32) -> bool
     ensures { λ r. ⌜ r ≡ oldBelow binary64 (inMode mode) (shownKey old) (shownKey new) ⌝ }
 {
     let sa_l = signed_area(old.point, old.mate, new.point);
     let sa_r = signed_area(old.point, old.mate, new.mate);
     if is_zero(sa_l) {
         if is_zero(sa_r) {
-            return is_alongside(old, new);
+            return old_is_below_on_line(old, new);
         }
     }
-    is_below_apart(old, new, sa_l, sa_r, mode)
+    old_is_below_off_line(old, new, sa_l, sa_r, mode)
 }
 
 // What the boxes of two segments are certain of.
@@ -168,9 +174,9 @@ pub fn compare_segments(a: Key, b: Key, mode: u32) -> Ordering
         ByBoxes::Greater => Ordering::Greater,
         ByBoxes::Open => {
             if before(a, b) {
-                return less_if(is_below(a, b, mode));
+                return less_if(old_is_below(a, b, mode));
             }
-            less_if_inversed(is_below(b, a, mode))
+            less_if_inversed(old_is_below(b, a, mode))
         }
     }
 }

@@ -29,7 +29,7 @@ fn is_less(ordering: Ordering) -> bool
 }
 
 // Left record e, whose key this is, compares less than member x.
-fn is_below(
+fn goes_below(
     points: &[[f64; 2]],
     marks: &[[u32; 12]],
     used: u32,
@@ -65,7 +65,7 @@ pub fn slot_below(
     // most members lie clear below: only the others are compared
     let mut i = after_clear(points, marks, used, ready, key, low, status, end, 0);
     while i < end {
-        if is_below(points, marks, used, e, key, status[i], mode) {
+        if goes_below(points, marks, used, e, key, status[i], mode) {
             return i;
         }
         i = after_clear(points, marks, used, ready, key, low, status, end, i + 1);

@@ -1,4 +1,5 @@
--- The theorem at binary64, with the crossing that the code computes in any mode, about the two calls on lent arrays: no hypothesis is left but 01's.
+-- The theorem at binary64, with the crossing that the code computes in any mode, about the two calls on lent arrays: the hypotheses left are 01's and that the
+-- two pools have one size.
 use mathlib.Core.Path.{_≡_, refl, sym, ap, ap₂, _∙_, subst}
 use mathlib.Core.Bool.{false}
 use mathlib.Core.List.{List}

@@ -10,7 +10,7 @@ use Rattle.events.specs.Binary64.{binary64, inMode}
 use Rattle.events.specs.Pool.{Pool, pool, stored, rowAt}
 use Rattle.events.proofs.Stored.{pool-stored}
 use Rattle.class.specs.declared.Operation.the-variants.{Union}
-use Rattle.checks.specs.declared.Check.the-variants.{Passed}
+use Rattle.checks.specs.declared.Check.the-variants.{Passed, Refused}
 use Rattle.checks.specs.Checks.{andThen}
 use Rattle.division.specs.Worked.{zero, one, two, at}
 use Rattle.division.proofs.AtBinary64.{move-laws}
@@ -84,6 +84,22 @@ long-first = refl
 long-last : rowAt (swept short long .store) 3 .inOut ≡ true
 unfolding swept
 long-last = refl
+
+-- ---- Where an edge does not load, the order tells which refusal comes first: of an edge that is not fit and one without length.
+
+abbrev unfit : Edge Coordinate
+unfit = edge true (at I.nan zero) (at one one)
+
+abbrev dot : Edge Coordinate
+dot = edge true (at one one) (at one one)
+
+unfit-first : checkedEdges binary64 0 (unfit ∷ dot ∷ []) ≡ Refused (record { number = 2; place = 0 })
+unfolding swept checkedEdges checkedEdge andThen
+unfit-first = refl
+
+unfit-last : checkedEdges binary64 0 (dot ∷ unfit ∷ []) ≡ Refused (record { number = 3; place = 0 })
+unfolding swept checkedEdges checkedEdge andThen
+unfit-last = refl
 
 -- ---- two edges that cross: both are divided, nothing ties, and so the order of loading does not matter
 

@@ -63,7 +63,7 @@ returns-6 c =
     let e3 = e4 .before .before .before in
     let e2 = e3 .before .before .before in
     let e1 = e2 .before .before .before in
-    rw (e1 .if1 .left, e2 .if2 .left, e3 .if3 .left, e4 .if4 .left) (c .is-lower .ensures ∙ alike _ _ _ (e5 .if5 .left))
+    rw (e1 .if1 .left, e2 .if2 .left, e3 .if3 .left, e4 .if4 .left) (c .before-by-direction .ensures ∙ alike _ _ _ (e5 .if5 .left))
 
 pub before-spec : {M : Type 1} → statement M
 before-spec = tie.close (tie.spec returns returns-2 returns-3 returns-4 returns-5 (λ c κs. tt) returns-6)

@@ -28,7 +28,7 @@ module _ (c : tie.Start) where
 
 returns : tie.Need-returns
 unfolding compareSegments
-returns c = rw (← c .before .before .before .before2 .ensures, c .before .before .if1 .taken, c .less-if .ensures, c .before .is-below .ensures)
+returns c = rw (← c .before .before .before .before2 .ensures, c .before .before .if1 .taken, c .less-if .ensures, c .before .old-is-below .ensures)
 
 returns-2 : tie.Need-returns-2
 returns-2 c =
@@ -42,7 +42,7 @@ returns-3 c =
 
 returns-4 : tie.Need-returns-4
 unfolding compareSegments
-returns-4 c = rw (← c .before .before .before .before2 .ensures, c .before .before .if1 .left, c .less-if-inversed .ensures, c .before .is-below2 .ensures)
+returns-4 c = rw (← c .before .before .before .before2 .ensures, c .before .before .if1 .left, c .less-if-inversed .ensures, c .before .old-is-below2 .ensures)
 
 pub compare-segments-spec : {M : Type 1} → statement M
 compare-segments-spec =

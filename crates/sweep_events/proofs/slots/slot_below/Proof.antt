@@ -34,17 +34,17 @@ loop-holds c =
       after-passed _ _ _ _ _ (c .before .before .before .before .key-used .ensures) _ _ 0 _ (r .0 .0) (omega (arith, r .0 .1, c .before .count .ensures)) (r .1) (begun _ _ _),
     )
 
-mul-is-below : tie.Need-mul-is-below Inv-loop μ-loop
-mul-is-below c = omega arith
+mul-goes-below : tie.Need-mul-goes-below Inv-loop μ-loop
+mul-goes-below c = omega arith
 
-shared-slice-read-is-below : tie.Need-shared-slice-read-is-below Inv-loop μ-loop
-shared-slice-read-is-below c = omega arith
+shared-slice-read-goes-below : tie.Need-shared-slice-read-goes-below Inv-loop μ-loop
+shared-slice-read-goes-below c = omega arith
 
 returns : tie.Need-returns Inv-loop μ-loop
 returns c =
     let b = c .before .before .before .before in
     let l = b .loop in
-    found _ _ _ (l .i) (omega arith) (l .inv .3) (below-is _ _ _ _ _ _ _ (b .before .before .before .before .before .key-used .ensures) (c .before .is-below .ensures)) (c .if1 .taken)
+    found _ _ _ (l .i) (omega arith) (l .inv .3) (below-is _ _ _ _ _ _ _ (b .before .before .before .before .before .key-used .ensures) (c .before .goes-below .ensures)) (c .if1 .taken)
 
 add-after-clear : tie.Need-add-after-clear Inv-loop μ-loop
 add-after-clear c = omega arith
@@ -67,7 +67,7 @@ loop-again c =
       l .inv .1,
       r .0 .1,
       after-passed _ _ _ _ _ key _ _ (l .i + 1) _ (r .0 .0) (omega (arith, r .0 .1, l .inv .0)) (r .1)
-          (passed _ _ _ (l .i) (omega arith) (l .inv .3) (below-is _ _ _ _ _ _ _ key (c .before .before .is-below .ensures)) (c .before .if1 .left)),
+          (passed _ _ _ (l .i) (omega arith) (l .inv .3) (below-is _ _ _ _ _ _ _ key (c .before .before .goes-below .ensures)) (c .before .if1 .left)),
     )
 
 returns-2 : tie.Need-returns-2 Inv-loop μ-loop
@@ -85,8 +85,8 @@ slot-below-spec =
     (λ c κs. tt)
     after-clear-requires
     loop-holds
-    mul-is-below
-    shared-slice-read-is-below
+    mul-goes-below
+    shared-slice-read-goes-below
     (λ c κs. tt)
     returns
     add-after-clear

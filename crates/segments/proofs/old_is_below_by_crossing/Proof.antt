@@ -2,8 +2,8 @@
 use borrow.Author.Needs.{needs}
 use Rattle.events.specs.Binary64.{crossOf}
 use Rattle.segments.specs.Segments.{byCrossing}
-use Rattle.segments.proofs.is_below_by.Statement.{statement}
-use Rattle.segments.proofs.is_below_by.Tie as tie
+use Rattle.segments.proofs.old_is_below_by_crossing.Statement.{statement}
+use Rattle.segments.proofs.old_is_below_by_crossing.Tie as tie
 
 returns : tie.Need-returns
 unfolding byCrossing crossOf
@@ -19,11 +19,11 @@ returns-3 c = rw (c .before .before .before .found .given .1, ← c .before .sam
 
 returns-4 : tie.Need-returns-4
 unfolding byCrossing crossOf
-returns-4 c = rw (c .before .enum-told2 .given .1, c .is-alongside .ensures)
+returns-4 c = rw (c .before .enum-told2 .given .1, c .old-is-below-on-line .ensures)
 
 returns-5 : tie.Need-returns-5
 unfolding byCrossing crossOf
 returns-5 c = rw (c .enum-told3 .given .1)
 
-pub is-below-by-spec : {M : Type 1} → statement M
-is-below-by-spec = tie.close (tie.spec (λ c. search needs) (λ c. search needs) (λ c κs. tt) returns (λ c. search needs) (λ c κs. tt) (λ c. search needs) returns-2 returns-3 returns-4 returns-5)
+pub old-is-below-by-crossing-spec : {M : Type 1} → statement M
+old-is-below-by-crossing-spec = tie.close (tie.spec (λ c. search needs) (λ c. search needs) (λ c κs. tt) returns (λ c. search needs) (λ c κs. tt) (λ c. search needs) returns-2 returns-3 returns-4 returns-5)

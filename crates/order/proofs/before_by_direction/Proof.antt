@@ -1,8 +1,8 @@
 -- Each sign is one clause of the definition.
 use borrow.Author.Needs.{needs}
 use Rattle.order.specs.Order.{byTurn, byLayer}
-use Rattle.order.proofs.is_lower.Statement.{statement}
-use Rattle.order.proofs.is_lower.Tie as tie
+use Rattle.order.proofs.before_by_direction.Statement.{statement}
+use Rattle.order.proofs.before_by_direction.Tie as tie
 
 returns : tie.Need-returns
 unfolding byTurn
@@ -20,5 +20,5 @@ returns-4 : tie.Need-returns-4
 unfolding byTurn
 returns-4 c = rw (← c .before .before .signed-area .ensures, c .enum-told3 .given .1)
 
-pub is-lower-spec : {M : Type 1} → statement M
-is-lower-spec = tie.close (tie.spec (λ c κs. tt) (λ c. search needs) (λ c. search needs) (λ c. search needs) returns returns-2 returns-3 returns-4)
+pub before-by-direction-spec : {M : Type 1} → statement M
+before-by-direction-spec = tie.close (tie.spec (λ c κs. tt) (λ c. search needs) (λ c. search needs) (λ c. search needs) returns returns-2 returns-3 returns-4)

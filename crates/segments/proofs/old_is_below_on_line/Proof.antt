@@ -1,7 +1,7 @@
 -- Layer, shared end and ring decide in turn.
 use Rattle.segments.specs.Segments.{alongside}
-use Rattle.segments.proofs.is_alongside.Statement.{statement}
-use Rattle.segments.proofs.is_alongside.Tie as tie
+use Rattle.segments.proofs.old_is_below_on_line.Statement.{statement}
+use Rattle.segments.proofs.old_is_below_on_line.Tie as tie
 
 returns : tie.Need-returns
 unfolding alongside
@@ -15,5 +15,5 @@ returns-3 : tie.Need-returns-3
 unfolding alongside
 returns-3 c = rw (c .if1 .left)
 
-pub is-alongside-spec : {M : Type 1} → statement M
-is-alongside-spec = tie.close (tie.spec (λ c κs. tt) returns returns-2 returns-3)
+pub old-is-below-on-line-spec : {M : Type 1} → statement M
+old-is-below-on-line-spec = tie.close (tie.spec (λ c κs. tt) returns returns-2 returns-3)

@@ -1,8 +1,8 @@
 -- The two signs are known at k; each answer then follows the tests.
 use Rattle.events.specs.Binary64.{binary64, inMode}
 use Rattle.segments.specs.Segments.{apart}
-use Rattle.segments.proofs.is_below_apart.Statement.{statement}
-use Rattle.segments.proofs.is_below_apart.Tie as tie
+use Rattle.segments.proofs.old_is_below_off_line.Statement.{statement}
+use Rattle.segments.proofs.old_is_below_off_line.Tie as tie
 
 returns : tie.Need-returns
 unfolding apart binary64 inMode
@@ -22,7 +22,7 @@ returns-4 c = let s = c .before .before .before .before .before .before .before 
 
 returns-5 : tie.Need-returns-5
 unfolding apart binary64 inMode
-returns-5 c = let s = c .before .before .before .before .before .before .before .before .before in let k = s .before in rw (← k .before .is-positive .ensures, ← k .is-positive2 .ensures, ← s .same-point .ensures, c .before .before .before .before .before .before .before .before .if1 .left, c .before .before .before .before .before .if2 .left, c .before .before .before .before .if3 .left, ← c .before .before .before .is-zero .ensures, c .before .before .if4 .left, c .is-below-by .ensures, c .before .intersection .ensures)
+returns-5 c = let s = c .before .before .before .before .before .before .before .before .before in let k = s .before in rw (← k .before .is-positive .ensures, ← k .is-positive2 .ensures, ← s .same-point .ensures, c .before .before .before .before .before .before .before .before .if1 .left, c .before .before .before .before .before .if2 .left, c .before .before .before .before .if3 .left, ← c .before .before .before .is-zero .ensures, c .before .before .if4 .left, c .old-is-below-by-crossing .ensures, c .before .intersection .ensures)
 
-pub is-below-apart-spec : {M : Type 1} → statement M
-is-below-apart-spec = tie.close (tie.spec (λ c κs. tt) (λ c κs. tt) (λ c κs. tt) returns returns-2 returns-3 (λ c κs. tt) returns-4 (λ c κs. tt) (λ c κs. tt) returns-5)
+pub old-is-below-off-line-spec : {M : Type 1} → statement M
+old-is-below-off-line-spec = tie.close (tie.spec (λ c κs. tt) (λ c κs. tt) (λ c κs. tt) returns returns-2 returns-3 (λ c κs. tt) returns-4 (λ c κs. tt) (λ c κs. tt) returns-5)
