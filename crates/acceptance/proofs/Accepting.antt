@@ -12,14 +12,14 @@ use Rattle.events.specs.Binary64.{binary64}
 use Rattle.events.specs.Pool.{Pool, size, rowAt}
 use Rattle.checks.specs.declared.Check.{Check}
 use Rattle.checks.specs.declared.Check.the-variants.{Passed, Refused}
-use Rattle.checks.specs.Checks.{maxEvents, sizeRefusal, outside, missized, mistaken, unfitAt, andThen, sized}
+use Rattle.checks.specs.Checks.{maxEvents, sizeRefusal, outside, missized, mistaken, andThen, sized}
 use Rattle.checks.proofs.Passed.{sized-passed}
 use Rattle.checks.proofs.Unstruck.{neither, inside}
 use Rattle.contours.specs.Accept.{listed, twice, misplaced, halfListed, toldLowest, listSized, accept}
 use Rattle.contours.proofs.Accepted.{told-none, listed-in}
 use Rattle.acceptance.specs.Seen.{zeros, seenAt, seenIn, tallied}
 use Rattle.acceptance.specs.Flaws.{numberOf, flawed, misplacedSeen, halfSeen}
-use Rattle.acceptance.specs.OnPool.{acceptPool, toldFlaw, toldRoom, acceptSeen, acceptSized}
+use Rattle.acceptance.specs.OnPool.{acceptPool, toldUnfit, toldFlaw, toldRoom, acceptSeen, acceptSized}
 use Rattle.acceptance.proofs.Tallying.{listed-seen, twice-seen, tallied-seen, unseen-beyond}
 use Rattle.acceptance.proofs.Chain.{where-passed}
 
@@ -81,7 +81,7 @@ module _ (p : Pool) (list : List ℕ) (k : ℕ) (few : size p ≤ k) where
       rw
       (fun-ext misplaced-is)
       (ap
-      (andThen (toldLowest 2 (unfitAt binary64 (rowAt p) (size p)) list))
+      (andThen (toldUnfit p list))
       (where-passed _ _ _ (λ e. ap (λ test. andThen (toldLowest 8 test list) (toldRoom p list corners contours holes)) (fun-ext (half-is (all-within e))))))
 
 size-most : (p : Pool) → size p ≤ length (p .points)
@@ -115,5 +115,5 @@ module _ (p : Pool) (list : List ℕ) (corners contours holes : ℕ) where
     pool-refused e = rw (le-ltb maxEvents (length list) short, ← sizes, e)
 
     pub accepts : {answer : Check} → t ≡ false → answer ≡ acceptSized p list corners contours holes → answer ≡ acceptPool p list corners contours holes
-    unfolding acceptPool accept acceptSized toldRoom listSized sized andThen
+    unfolding acceptPool accept acceptSized toldUnfit toldRoom listSized sized andThen
     accepts e a = a ∙ rw (le-ltb maxEvents (length list) short, ← sizes, e)

@@ -6,8 +6,8 @@ use Prim.Native.Nat.{ℕ}
 use Rattle.events.specs.Pool.{Pool}
 use Rattle.checks.specs.declared.Check.{Check}
 use Rattle.acceptance.specs.declared.flaws.Flaw.{Flaw}
-use Rattle.acceptance.specs.declared.flaws.Flaw.the-variants.{Unfit, Misplaced, HalfListed}
-use Rattle.acceptance.specs.OnPool.{isRefused, toldFlaw, toldRoom, acceptSeen}
+use Rattle.acceptance.specs.declared.flaws.Flaw.the-variants.{Misplaced, HalfListed}
+use Rattle.acceptance.specs.OnPool.{isRefused, toldUnfit, toldFlaw, toldRoom, acceptSeen}
 use Rattle.acceptance.proofs.Chain.{refuses, passes, later}
 
 module _ (p : Pool) (seen list : List ℕ) (corners contours holes : ℕ) where
@@ -17,7 +17,7 @@ module _ (p : Pool) (seen list : List ℕ) (corners contours holes : ℕ) where
   abbrev accepted : Check
   accepted = acceptSeen p seen list corners contours holes
 
-  module _ {x : Check} {t : Bool} (unfit : x ≡ told Unfit) (tested : t ≡ isRefused x) where
+  module _ {x : Check} {t : Bool} (unfit : x ≡ toldUnfit p list) (tested : t ≡ isRefused x) where
     pub unfit-told : t ≡ true → x ≡ accepted
     unfolding acceptSeen
     unfit-told e = refuses _ unfit tested _ e

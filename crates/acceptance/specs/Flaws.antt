@@ -5,16 +5,15 @@ use Prim.Native.Nat.{ℕ}
 use lib.Dec.{eqb, ltb}
 use Rattle.events.specs.Binary64.{binary64}
 use Rattle.events.specs.Pool.{Pool, rowAt}
-use Rattle.checks.specs.Checks.{unfitAt, mistaken}
+use Rattle.checks.specs.Checks.{mistaken}
 use Rattle.checks.specs.OnPool.{on}
 use Rattle.contours.specs.Result.{inResult}
 use Rattle.acceptance.specs.declared.flaws.Flaw.{Flaw}
-use Rattle.acceptance.specs.declared.flaws.Flaw.the-variants.{Unfit, Misplaced, HalfListed}
+use Rattle.acceptance.specs.declared.flaws.Flaw.the-variants.{Misplaced, HalfListed}
 use Rattle.acceptance.specs.Seen.{seenAt}
 
 -- the number of the refusal
 unfoldable pub numberOf : Flaw → ℕ
-numberOf Unfit = 2
 numberOf Misplaced = 4
 numberOf HalfListed = 8
 
@@ -25,6 +24,5 @@ unfoldable pub halfSeen : Pool → List ℕ → ℕ → Bool
 halfSeen p seen r = inResult (rowAt p) r && eqb (seenAt seen (rowAt p r .partner)) 0
 
 unfoldable pub flawed : Pool → List ℕ → Flaw → ℕ → Bool
-flawed p seen Unfit = on p (unfitAt binary64)
 flawed p seen Misplaced = misplacedSeen p seen
 flawed p seen HalfListed = halfSeen p seen

@@ -7,11 +7,12 @@ use Rattle.events.specs.Binary64.{binary64}
 use Rattle.events.specs.Pool.{Pool, size, rowAt}
 use Rattle.checks.specs.declared.Check.{Check}
 use Rattle.checks.specs.declared.Check.the-variants.{Passed, Refused}
-use Rattle.checks.specs.Checks.{andThen, unfitAt}
+use Rattle.checks.specs.Checks.{andThen, unfitAt, named}
+use Rattle.checks.specs.OnPool.{on}
 use Rattle.contours.specs.Result.{results, resultEdges}
 use Rattle.contours.specs.Accept.{Room, misplaced, halfListed, toldLowest, roomy, accept}
 use Rattle.acceptance.specs.declared.flaws.Flaw.{Flaw}
-use Rattle.acceptance.specs.declared.flaws.Flaw.the-variants.{Unfit, Misplaced, HalfListed}
+use Rattle.acceptance.specs.declared.flaws.Flaw.the-variants.{Misplaced, HalfListed}
 use Rattle.acceptance.specs.Flaws.{numberOf, flawed}
 
 unfoldable pub room : (corners contours holes : ℕ) → Room
@@ -30,6 +31,9 @@ unfoldable pub isRefused : Check → Bool
 isRefused Passed = false
 isRefused (Refused r) = true
 
+unfoldable pub toldUnfit : Pool → List ℕ → Check
+toldUnfit p list = toldLowest 2 (on p (unfitAt binary64)) (on p named list)
+
 unfoldable pub toldFlaw : Pool → List ℕ → List ℕ → Flaw → Check
 toldFlaw p seen list flaw = toldLowest (numberOf flaw) (flawed p seen flaw) list
 
@@ -40,7 +44,7 @@ toldRoom p list corners contours holes =
 -- after 1, where an array tells how often each record is listed
 unfoldable pub acceptSeen : Pool → List ℕ → List ℕ → (corners contours holes : ℕ) → Check
 acceptSeen p seen list corners contours holes =
-    andThen (toldFlaw p seen list Unfit)
+    andThen (toldUnfit p list)
     (andThen (toldFlaw p seen list Misplaced)
     (andThen (toldFlaw p seen list HalfListed)
     (toldRoom p list corners contours holes)))
@@ -48,7 +52,7 @@ acceptSeen p seen list corners contours holes =
 -- after 1, as they are asked
 unfoldable pub acceptSized : Pool → List ℕ → (corners contours holes : ℕ) → Check
 acceptSized p list corners contours holes =
-    andThen (toldLowest 2 (unfitAt binary64 (rowAt p) (size p)) list)
+    andThen (toldUnfit p list)
     (andThen (toldLowest 4 (misplaced binary64 (rowAt p) (size p) list) list)
     (andThen (toldLowest 8 (halfListed binary64 (rowAt p) (size p) list) list)
     (toldRoom p list corners contours holes)))

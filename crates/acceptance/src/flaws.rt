@@ -1,19 +1,14 @@
 // What can be wrong with a listed record, where `seen` tells how often each is listed.
 ghost use mathlib.Core.Path.{_≡_};
-ghost use Rattle.events.specs.Binary64.{binary64};
 ghost use Rattle.events.specs.Pool.{pool};
-ghost use Rattle.checks.specs.Checks.{unfitAt};
-ghost use Rattle.checks.specs.OnPool.{on};
 ghost use Rattle.acceptance.specs.Flaws.{misplacedSeen, halfSeen, flawed, numberOf};
 use crate::seen::seen_at;
 use checks::records::is_mistaken;
-use checks::records::is_unfit_at;
 use checks::sizes::places;
 use events::pool::read_event;
 use results::in_result;
 
 pub enum Flaw {
-    Unfit,
     Misplaced,
     HalfListed,
 }
@@ -23,18 +18,9 @@ pub fn number_of(flaw: Flaw) -> u64
     ensures { λ n. ⌜ n ≡ numberOf flaw ⌝ }
 {
     match flaw {
-        Flaw::Unfit => refusals::COORDINATE,
         Flaw::Misplaced => refusals::LINK,
         Flaw::HalfListed => refusals::HALF_EDGE,
     }
-}
-
-// Refusal 2.
-fn is_unfit(points: &[[f64; 2]], marks: &[[u32; 12]], r: u32) -> bool
-    ensures { λ x. ⌜ x ≡ on (pool (now (points .entry)) (now (marks .entry))) (unfitAt binary64) r ⌝ }
-{
-    let n = places(points, marks);
-    is_unfit_at(points, marks, n, r)
 }
 
 // Refusal 4: a mistake of the record, or it is listed twice.
@@ -63,7 +49,6 @@ pub fn is_flawed(points: &[[f64; 2]], marks: &[[u32; 12]], seen: &[u32], flaw: F
     ensures { λ x. ⌜ x ≡ flawed (pool (now (points .entry)) (now (marks .entry))) (now (seen .entry)) flaw r ⌝ }
 {
     match flaw {
-        Flaw::Unfit => is_unfit(points, marks, r),
         Flaw::Misplaced => is_misplaced(points, marks, seen, r),
         Flaw::HalfListed => is_half_listed(points, marks, seen, r),
     }

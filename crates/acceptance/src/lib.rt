@@ -1,4 +1,4 @@
-// Which lists connection takes: refusals 1, 2, 4, 8 and 5, each over all listed records before the next.
+// Which lists connection takes: refusals 1, 2, 4, 8 and 5, each over all records looked at before the next.
 ghost use mathlib.Core.Path.{_≡_};
 ghost use Prim.Native.Nat.{_≤_};
 ghost use lib.ListN.{length};
@@ -11,12 +11,14 @@ use checks::sizes::FEW;
 use checks::sizes::MAX_EVENTS;
 use checks::sizes::POOL_PLACE;
 use checks::sizes::pool_refused;
+use fit::check_fit;
 use flaws::Flaw;
 use lowest::check_flaw;
 use refusals::Refusal;
 use room::check_room;
 use seen::tally;
 
+mod fit;
 mod flaws;
 mod lowest;
 mod room;
@@ -46,7 +48,7 @@ fn check_list(
 ) -> Check
     ensures { λ r. ⌜ r ≡ acceptSeen (pool (now (points .entry)) (now (marks .entry))) (now (seen .entry)) (now (list .entry)) corners contours holes ⌝ }
 {
-    let unfit = check_flaw(points, marks, seen, Flaw::Unfit, list);
+    let unfit = check_fit(points, marks, list);
     if is_refused(unfit) {
         return unfit;
     }

@@ -20,7 +20,7 @@ fn lower(a: u64, b: u64) -> u64
 }
 
 // The same check with one more record looked at.
-fn told_also(told: Check, number: u64, r: u32, struck: bool) -> Check
+pub fn told_also(told: Check, number: u64, r: u32, struck: bool) -> Check
     ensures { λ x. ⌜ x ≡ toldAlso told number r struck ⌝ }
 {
     if struck {

@@ -1,10 +1,10 @@
--- What the checks leave: each listed record is sound and listed once, and with a result event its other end is listed.
+-- What the checks leave: each listed record is sound and listed once, its partner's point is fit, and with a result event its other end is listed.
 use mathlib.Core.Path.{_≡_, refl, sym, ap, _∙_}
 use mathlib.Core.Logic.{_≢_, _⊎_, inl, inr}
-use mathlib.Core.Bool.{Bool, true, false, not, cond, _&&_, _||_, true≢false, false≢true}
+use mathlib.Core.Bool.{Bool, true, false, not, cond, _&&_, _||_, and-false, true≢false, false≢true}
 use mathlib.Core.Option.{Option, none, some}
 use mathlib.Core.List.{List, [], _∷_, List·Memᴰ, List·Memᴰ·head, List·Memᴰ·tail, List·Memᴰ·not-nil, List·Memᴰ·cases-cons}
-use Prim.Native.Nat.{ℕ, _≤_}
+use Prim.Native.Nat.{ℕ, _≤_, _<_}
 use borrow.Author.Tests.{eqb-true, eq-eqb, ltb-false, le-ltb, not-false}
 use lib.ListN.{length}
 use lib.Dec.{eqb}
@@ -12,14 +12,15 @@ use Rattle.refusals.specs.declared.Refusal.{Refusal}
 use Rattle.events.specs.Coordinates.{Coordinates}
 use Rattle.events.specs.Event.{Event}
 use Rattle.checks.specs.declared.Check.the-variants.{Passed, Refused}
-use Rattle.checks.specs.Checks.{maxEvents, unfitAt, mistaken}
+use Rattle.checks.specs.Checks.{maxEvents, outside, unfitAt, mistaken, named}
 use Rattle.checks.specs.Sound.{Sized, Sound}
 use Rattle.checks.proofs.Told.{not-both, both-passed, passed-both}
-use Rattle.checks.proofs.Unstruck.{neither, sound, sound-fit, sound-not-mistaken}
+use Rattle.checks.proofs.Unstruck.{neither, sound, sound-fit, sound-not-mistaken, not-outside}
 use Rattle.checks.proofs.Passed.{sized-passed, passed-sized}
 use Rattle.contours.specs.Result.{inResult, results, resultEdges}
 use Rattle.contours.specs.Accept.{atMost, lowest, refusedAt, toldLowest, listSized, listed, twice, misplaced, halfListed, Room, roomFor, roomy, accept}
 use Rattle.contours.proofs.Lists.{Pairs, all-of, all-mem}
+use Rattle.contours.proofs.Partners.{own-named, partner-named, named-all}
 
 -- ---- one check over a list: it passes exactly if the test strikes no member
 
@@ -102,6 +103,7 @@ distinct-once (x ∷ l) h r = rw (distinct-once l (h .1) r) (go (eqb x r) refl (
 module _ {P : Type 0} (C : Coordinates P) (row : ℕ → Event P) (n : ℕ) (list : List ℕ) where
   pub record Accepted : Type 0 where
     pub each : (r : ℕ) → List·Memᴰ r list → Sound C row n r
+    pub other-fit : (r : ℕ) → List·Memᴰ r list → C .fit (row (row r .partner) .point) ≡ true
     pub distinct : Pairs _≢_ list
     pub both : (r : ℕ) → List·Memᴰ r list → inResult row r ≡ true → List·Memᴰ (row r .partner) list
 
@@ -137,23 +139,37 @@ unfolding roomFor
 passed-room wanted places h = rw (le-ltb places wanted h)
 
 module _ {P : Type 0} (C : Coordinates P) (row : ℕ → Event P) (n : ℕ) (list : List ℕ) where
-  -- 2 and 4
-  sound-all : toldLowest 2 (unfitAt C row n) list ≡ Passed → toldLowest 4 (misplaced C row n list) list ≡ Passed → (r : ℕ) → List·Memᴰ r list → Sound C row n r
-  unfolding misplaced
-  sound-all e f r m = sound C row n r (told-none 2 _ list e r m) (neither (twice list r) (mistaken C row n r) (told-none 4 (misplaced C row n list) list f r m) .1)
+  -- 2, of the listed records and their partners
+  abbrev pub FitEnds : Type 0
+  FitEnds = toldLowest 2 (unfitAt C row n) (named row n list) ≡ Passed
 
-  pub soundly : toldLowest 2 (unfitAt C row n) list ≡ Passed → toldLowest 4 (misplaced C row n list) list ≡ Passed
+  -- 2 and 4
+  sound-all : FitEnds → toldLowest 4 (misplaced C row n list) list ≡ Passed → (r : ℕ) → List·Memᴰ r list → Sound C row n r
+  unfolding misplaced
+  sound-all e f r m = sound C row n r (told-none 2 _ (named row n list) e r (own-named row n list r m)) (neither (twice list r) (mistaken C row n r) (told-none 4 (misplaced C row n list) list f r m) .1)
+
+  pub soundly : FitEnds → toldLowest 4 (misplaced C row n list) list ≡ Passed
       → ((r : ℕ) → List·Memᴰ r list → Sound C row n r) × Pairs _≢_ list
   unfolding misplaced
   soundly e f = (sound-all e f, once-distinct list (λ r m. neither (twice list r) (mistaken C row n r) (told-none 4 (misplaced C row n list) list f r m) .0))
 
-  pub accepted-by : toldLowest 2 (unfitAt C row n) list ≡ Passed → toldLowest 4 (misplaced C row n list) list ≡ Passed → toldLowest 8 (halfListed C row n list) list ≡ Passed
+  -- event order reads this point too
+  fit-inside : (q : ℕ) → q < n → unfitAt C row n q ≡ false → C .fit (row q .point) ≡ true
+  unfolding unfitAt
+  fit-inside q h e = not-false _ (rw (not-outside n q h) at e)
+
+  others-fit : FitEnds → ((r : ℕ) → List·Memᴰ r list → Sound C row n r) → (r : ℕ) → List·Memᴰ r list → C .fit (row (row r .partner) .point) ≡ true
+  others-fit e h r m =
+      fit-inside (row r .partner) (h r m .partner) (told-none 2 _ (named row n list) e (row r .partner) (partner-named row n list r (h r m .inside) m))
+
+  pub accepted-by : FitEnds → toldLowest 4 (misplaced C row n list) list ≡ Passed → toldLowest 8 (halfListed C row n list) list ≡ Passed
       → Accepted C row n list
   unfolding halfListed
   accepted-by two four eight =
       let sounds = soundly two four in
       record {
         each = sounds .0;
+        other-fit = others-fit two (sounds .0);
         distinct = sounds .1;
         both = λ r m i. listed-in list _ (both-out (inResult row r) _ i (told-none 8 (halfListed C row n list) list eight r m));
       }
@@ -178,13 +194,18 @@ module _ {P : Type 0} (C : Coordinates P) (row : ℕ → Event P) (n : ℕ) (lis
         },
       )
 
+  not-unfit : (q : ℕ) → C .fit (row q .point) ≡ true → unfitAt C row n q ≡ false
+  unfolding unfitAt
+  not-unfit q e = rw e (and-false (not (outside n q)))
+
   -- and nothing more is refused
   pub passes : (points marks : ℕ) (room : Room) → Accepted C row n list → Fits C row n list points marks room → accept C row n points marks list room ≡ Passed
   unfolding accept roomy listSized halfListed misplaced
   passes points marks room a f =
       passed-both _ _ (rw (le-ltb maxEvents (length list) (f .short)))
       (passed-both _ _ (passed-sized points marks (f .sizes))
-      (passed-both _ _ (none-told 2 _ list (λ r m. sound-fit C row n r (a .each r m)))
+      (passed-both _ _ (none-told 2 _ (named row n list)
+      (named-all row n (λ q. unfitAt C row n q ≡ false) list (λ r m. (a .each r m .inside, (sound-fit C row n r (a .each r m), not-unfit _ (a .other-fit r m))))))
       (passed-both _ _ (none-told 4 (misplaced C row n list) list (λ r m. rw (distinct-once list (a .distinct) r, sound-not-mistaken C row n r (a .each r m))))
       (passed-both _ _ (none-told 8 (halfListed C row n list) list (λ r m. and-no (inResult row r) _ (λ i. in-listed list _ (a .both r m i))))
       (passed-both _ _ (passed-room _ _ (f .events)) (passed-both _ _ (passed-room _ _ (f .outlines)) (passed-room _ _ (f .holes))))))))

@@ -99,6 +99,11 @@ module _ (p : Pool) (list : List ℕ) (room : Room) (f : Finished Coordinate Poo
 -- ---- what is given, also where refusal 9 stopped it
 
 module _ (p : Pool) (list : List ℕ) (room : Room) (f : Finished Coordinate Pool) (e : given (connectPool p list room) ≡ some f) where
+  -- both ends of a listed record's edge have fit points, so that event order reads no other
+  pub fit-ends : (r : ℕ) → List·Memᴰ r list → (binary64 .fit (rowAt p r .point) ≡ true) × (binary64 .fit (rowAt p (rowAt p r .partner) .point) ≡ true)
+  unfolding connectPool stored
+  fit-ends = G.fit-ends binary64 stored p (length (p .points)) (length (p .marks)) list room f e
+
   -- the room that refusal 5 asks for is enough
   pub enough : (length (f .outlines) ≤ room .contours) × (cornerCount (f .outlines) ≤ room .points) × (holeCount (f .outlines) ≤ room .holes)
   unfolding connectPool stored laws

@@ -15,7 +15,7 @@ use Rattle.events.specs.Coordinates.{Coordinates}
 use Rattle.events.specs.Event.{Event}
 use Rattle.checks.specs.declared.Check.{Check}
 use Rattle.checks.specs.declared.Check.the-variants.{Passed, Refused}
-use Rattle.checks.specs.Checks.{maxEvents, missized, sizeRefusal, unfitAt, andThen, sized}
+use Rattle.checks.specs.Checks.{maxEvents, missized, sizeRefusal, unfitAt, named, andThen, sized}
 use Rattle.checks.proofs.Told.{not-both, either-refused}
 use Rattle.checks.proofs.Passed.{sized-refused}
 use Rattle.contours.specs.Result.{results, resultEdges}
@@ -89,10 +89,10 @@ module _ {P : Type 0} (C : Coordinates P) (row : ℕ → Event P) (n points mark
   pub data Cause (x : Refusal) : Type 0 where
     list1 : maxEvents < length list → x ≡ record { number = 1; place = 0 } → Cause x
     size1 : length list ≤ maxEvents → missized points marks ≡ true → x ≡ sizeRefusal → Cause x
-    unfit2 : ToldAt 2 (unfitAt C row n) list x → Cause x
-    mistake4 : None (unfitAt C row n) list → ToldAt 4 (misplaced C row n list) list x → Cause x
-    half8 : None (unfitAt C row n) list → None (misplaced C row n list) list → ToldAt 8 (halfListed C row n list) list x → Cause x
-    room5 : None (unfitAt C row n) list → None (misplaced C row n list) list → None (halfListed C row n list) list
+    unfit2 : ToldAt 2 (unfitAt C row n) (named row n list) x → Cause x
+    mistake4 : None (unfitAt C row n) (named row n list) → ToldAt 4 (misplaced C row n list) list x → Cause x
+    half8 : None (unfitAt C row n) (named row n list) → None (misplaced C row n list) list → ToldAt 8 (halfListed C row n list) list x → Cause x
+    room5 : None (unfitAt C row n) (named row n list) → None (misplaced C row n list) list → None (halfListed C row n list) list
         → Short room (length (results row list)) (length (resultEdges row list)) x → Cause x
 
 by-size : (wanted places : ℕ) (x : Refusal) → roomFor wanted places ≡ Refused x → (places < wanted) × (x ≡ record { number = 5; place = wanted })
@@ -129,21 +129,21 @@ module _ {P : Type 0} (C : Coordinates P) (row : ℕ → Event P) (n points mark
   unfolding accept
   cause e = ⊎-elim (λ q. let h = list-refused list x q in list1 (h .0) (h .1)) (λ q. one (q .0) (either-refused (sized points marks) _ x (q .1))) (either-refused (listSized list) _ x e)
     where
-      five : toldLowest 2 (unfitAt C row n) list ≡ Passed → toldLowest 4 (misplaced C row n list) list ≡ Passed → toldLowest 8 (halfListed C row n list) list ≡ Passed
+      five : toldLowest 2 (unfitAt C row n) (named row n list) ≡ Passed → toldLowest 4 (misplaced C row n list) list ≡ Passed → toldLowest 8 (halfListed C row n list) list ≡ Passed
           → roomy room (length (results row list)) (length (resultEdges row list)) ≡ Refused x → Cause C row n points marks list room x
-      five a b c q = room5 (told-none 2 _ list a) (told-none 4 _ list b) (told-none 8 _ list c) (short-is room _ _ x q)
+      five a b c q = room5 (told-none 2 _ (named row n list) a) (told-none 4 _ list b) (told-none 8 _ list c) (short-is room _ _ x q)
 
-      eight : toldLowest 2 (unfitAt C row n) list ≡ Passed → toldLowest 4 (misplaced C row n list) list ≡ Passed
+      eight : toldLowest 2 (unfitAt C row n) (named row n list) ≡ Passed → toldLowest 4 (misplaced C row n list) list ≡ Passed
           → andThen (toldLowest 8 (halfListed C row n list) list) (roomy room (length (results row list)) (length (resultEdges row list))) ≡ Refused x → Cause C row n points marks list room x
-      eight a b q = ⊎-elim (λ r. half8 (told-none 2 _ list a) (told-none 4 _ list b) (told-at 8 _ list x r)) (λ r. five a b (r .0) (r .1)) (either-refused (toldLowest 8 (halfListed C row n list) list) _ x q)
+      eight a b q = ⊎-elim (λ r. half8 (told-none 2 _ (named row n list) a) (told-none 4 _ list b) (told-at 8 _ list x r)) (λ r. five a b (r .0) (r .1)) (either-refused (toldLowest 8 (halfListed C row n list) list) _ x q)
 
-      four : toldLowest 2 (unfitAt C row n) list ≡ Passed
+      four : toldLowest 2 (unfitAt C row n) (named row n list) ≡ Passed
           → andThen (toldLowest 4 (misplaced C row n list) list) (andThen (toldLowest 8 (halfListed C row n list) list) (roomy room (length (results row list)) (length (resultEdges row list)))) ≡ Refused x → Cause C row n points marks list room x
-      four a q = ⊎-elim (λ r. mistake4 (told-none 2 _ list a) (told-at 4 _ list x r)) (λ r. eight a (r .0) (r .1)) (either-refused (toldLowest 4 (misplaced C row n list) list) _ x q)
+      four a q = ⊎-elim (λ r. mistake4 (told-none 2 _ (named row n list) a) (told-at 4 _ list x r)) (λ r. eight a (r .0) (r .1)) (either-refused (toldLowest 4 (misplaced C row n list) list) _ x q)
 
       rest : Check
       rest = andThen (toldLowest 4 (misplaced C row n list) list) (andThen (toldLowest 8 (halfListed C row n list) list) (roomy room (length (results row list)) (length (resultEdges row list))))
 
-      one : listSized list ≡ Passed → (sized points marks ≡ Refused x) ⊎ ((sized points marks ≡ Passed) × (andThen (toldLowest 2 (unfitAt C row n) list) rest ≡ Refused x)) → Cause C row n points marks list room x
+      one : listSized list ≡ Passed → (sized points marks ≡ Refused x) ⊎ ((sized points marks ≡ Passed) × (andThen (toldLowest 2 (unfitAt C row n) (named row n list)) rest ≡ Refused x)) → Cause C row n points marks list room x
       one a (inl q) = let h = sized-refused points marks x q in size1 (list-short list a) (h .0) (h .1)
-      one a (inr q) = ⊎-elim (λ r. unfit2 (told-at 2 _ list x r)) (λ r. four (r .0) (r .1)) (either-refused (toldLowest 2 (unfitAt C row n) list) rest x (q .1))
+      one a (inr q) = ⊎-elim (λ r. unfit2 (told-at 2 _ (named row n list) x r)) (λ r. four (r .0) (r .1)) (either-refused (toldLowest 2 (unfitAt C row n) (named row n list)) rest x (q .1))

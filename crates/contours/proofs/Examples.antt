@@ -16,7 +16,7 @@ use Rattle.events.specs.Store.{Store}
 use Rattle.order.specs.Order.{byNumber, byEnd, byTurn, byLayer, before}
 use Rattle.order.proofs.Steps.{signFrom}
 use Rattle.order.proofs.Grid.{Spot, plus, minus, grid}
-use Rattle.checks.specs.Checks.{missized, outside, unpaired, alike, inOrder, misordered, notToLeft, misled, mistaken, unfitAt, andThen, sized}
+use Rattle.checks.specs.Checks.{missized, outside, unpaired, alike, inOrder, misordered, notToLeft, misled, mistaken, unfitAt, named, mate, andThen, sized}
 use Rattle.checks.specs.Numbers.{numbersFrom}
 use Rattle.order.specs.Keys.{keyOf}
 use Rattle.events.specs.Event.{hasTransition}
@@ -79,7 +79,7 @@ ample = record { points = 16; contours = 8; holes = 8 }
 
 -- all that an example computes with is named here, once
 run : List (Event Spot) → List ℕ → ℕ × ℕ × List Shown
-unfolding told shown ample events blank end spot connect accept listSized sized missized andThen toldLowest refusedAt lowest atMost unfitAt mistaken outside unpaired alike inOrder misordered notToLeft misled misplaced twice listed halfListed inResult hasTransition roomy roomFor results resultEdges keep ordered sort insert earlier keyOf key before byNumber byEnd byTurn byLayer grid same ahead plus minus signFrom table rowOf belowOf place isOutIn rowAt traced trace turns turn make context owned loose under hole walk onward halt seek isOpen tries rights lefts numbersFrom down mark marks corners finished outcomeOf afterChecks outlines outlinesFrom outline holesOf isParent closes final
+unfolding told shown ample events blank end spot connect accept listSized sized missized andThen toldLowest refusedAt lowest atMost unfitAt mistaken outside unpaired alike inOrder misordered notToLeft misled named mate misplaced twice listed halfListed inResult hasTransition roomy roomFor results resultEdges keep ordered sort insert earlier keyOf key before byNumber byEnd byTurn byLayer grid same ahead plus minus signFrom table rowOf belowOf place isOutIn rowAt traced trace turns turn make context owned loose under hole walk onward halt seek isOpen tries rights lefts numbersFrom down mark marks corners finished outcomeOf afterChecks outlines outlinesFrom outline holesOf isParent closes final
 run s list = told (connect grid events s (length s) (length s) list ample)
 
 -- ---- two squares, 0..1 and 1..2, that touch at (1,1): two contours of five points, starting (0,0) and (1,1)

@@ -65,6 +65,11 @@ module _ {P S : Type 0} (C : Coordinates P) (K : Store P S) (s : S) (points mark
       go Passed q e = by (traced C K s list) q refl e
       go (Refused x) q e = let z : _≡_ {A = ℕ} 1 0 = cc in absurd (suc-ne-zero 0 z)
 
+  -- both ends of a listed record's edge have fit points, so that event order reads no other
+  pub fit-ends : given (connect C K s points marks list room) ≡ some f
+      → (r : ℕ) → List·Memᴰ r list → (C .fit (K .rowAt s r .point) ≡ true) × (C .fit (K .rowAt s (K .rowAt s r .partner) .point) ≡ true)
+  fit-ends e r m = let ok = given-is e .ok in (ok .each r m .fit, ok .other-fit r m)
+
 -- the edge between corners k and k + 1 of an outline is that of record r
 pub record ResultEdgeAt {P : Type 0} (C : Coordinates P) (row : ℕ → Event P) (list : List ℕ) (o : Outline P) (k : ℕ) (d : P) (r : ℕ) : Type 0 where
   pub result : List·Memᴰ r (results row list)

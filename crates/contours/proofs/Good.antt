@@ -191,10 +191,11 @@ module _ {P : Type 0} (C : Coordinates P) (row : ℕ → Event P) (n : ℕ) (voi
           alike = λ i j k l m o e. same-ext L (at i .point) (at j .point) (at k .point) (fine-at i l) (fine-at j m) (fine-at k o) e;
         }
 
-    pub valid-key : (r : ℕ) → List·Memᴰ r (results row list) → Valid L (keyOf row r)
+    -- of every listed record, in the result or not: event order reads fit points alone
+    pub valid-key : (r : ℕ) → List·Memᴰ r list → Valid L (keyOf row r)
     unfolding keyOf key onSide inOrder
     valid-key r m =
         record {
-          placed = record { point = fine (row r .point) (sound-result r m .fit); mate = fine (row (mate r) .point) (sound-result (mate r) (mate-in r m) .fit) };
-          side = sound-result r m .ordered;
+          placed = record { point = fine (row r .point) (ok .each r m .fit); mate = fine (row (mate r) .point) (ok .other-fit r m) };
+          side = ok .each r m .ordered;
         }

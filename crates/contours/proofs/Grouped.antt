@@ -1,7 +1,7 @@
 -- The table is in event order: the ends at one point stand together, right ends before left ends. So a point's round is one run of positions.
 use mathlib.Core.Path.{_≡_, refl, sym, ap₂, _∙_}
 use mathlib.Core.Bool.{Bool, true, false, true≢false}
-use mathlib.Core.List.{List, [], _∷_}
+use mathlib.Core.List.{List, [], _∷_, List·Memᴰ}
 use Prim.Native.Nat.{ℕ, zero, suc, _<_}
 use native.Mathlib.Nat.{not-suc-le-zero, le-of-suc-le-suc}
 use native.Mathlib.Omega.{arith}
@@ -19,7 +19,7 @@ use Rattle.contours.proofs.Lists.{Pairs, all-of, all-mem, mem-getD}
 use Rattle.contours.proofs.Sort.{sort-ordered}
 use Rattle.contours.proofs.Walked.{Good, RightLater}
 use Rattle.contours.proofs.Accepted.{Accepted}
-use Rattle.contours.proofs.Good.{good, rec-other, sound-result, size, valid-key, rec-in, point-is, left-is}
+use Rattle.contours.proofs.Good.{good, in-list, rec-other, sound-result, size, valid-key, rec-in, point-is, left-is}
 
 pairs-getD : (R : ℕ → ℕ → Type 0) (s : List ℕ) → Pairs R s → (i j : ℕ) → i < j → j < length s → R (getD s i 0) (getD s j 0)
 pairs-getD R [] h i j l m = absurd (not-suc-le-zero m)
@@ -81,8 +81,11 @@ module _ {P : Type 0} (C : Coordinates P) (row : ℕ → Event P) (n : ℕ) (voi
   abbrev Keyed : ℕ → Type 0
   Keyed r = Valid L (keyOf row r)
 
+  keyed-result : (r : ℕ) → List·Memᴰ r (results row list) → Keyed r
+  keyed-result r m = valid-key C row n void list ok L fine r (in-list C row n void list ok r m .0)
+
   keyed : (i : ℕ) → i < count → Placed L (keyOf row (getD s i 0))
-  keyed i l = valid-key C row n void list ok L fine (getD s i 0) (rec-in C row n void list ok i l) .placed
+  keyed i l = keyed-result (getD s i 0) (rec-in C row n void list ok i l) .placed
 
   in-order : Pairs (λ a b. earlier row C a b ≡ true) s
   unfolding ordered earlier
@@ -90,7 +93,7 @@ module _ {P : Type 0} (C : Coordinates P) (row : ℕ → Event P) (n : ℕ) (voi
       sort-ordered (earlier row C) Keyed (λ a b c. trans L (keyOf row a) (keyOf row b) (keyOf row c))
       (λ a b u v. otherwise L (keyOf row a) (keyOf row b) (u .placed) (v .placed))
       (results row list)
-      (all-of Keyed (results row list) (valid-key C row n void list ok L fine))
+      (all-of Keyed (results row list) keyed-result)
 
   -- an earlier position is before a later one
   pub in-turn : (i j : ℕ) → i < j → j < count → before C (keyOf row (getD s i 0)) (keyOf row (getD s j 0)) ≡ true

@@ -10,6 +10,7 @@ pub mod Amount
 pub mod Halves
 pub mod Nesting
 pub mod Corners
+pub mod Partners
 pub mod Accepted
 pub mod Cause
 pub mod Good

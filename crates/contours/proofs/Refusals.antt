@@ -16,7 +16,7 @@ use Rattle.events.specs.Event.{Event}
 use Rattle.events.specs.Renaming.{renameLink, rename}
 use Rattle.checks.specs.declared.Check.{Check}
 use Rattle.checks.specs.declared.Check.the-variants.{Passed, Refused}
-use Rattle.checks.specs.Checks.{outside, unpaired, alike, inOrder, misordered, notToLeft, misled, mistaken, unfitAt, andThen, sized}
+use Rattle.checks.specs.Checks.{outside, unpaired, alike, inOrder, misordered, notToLeft, misled, mistaken, unfitAt, named, andThen, sized}
 use Rattle.checks.specs.Sound.{Sound}
 use Rattle.contours.specs.Result.{keep, inResult}
 use Rattle.contours.specs.Accept.{atMost, lowest, refusedAt, toldLowest, listSized, listed, twice, misplaced, halfListed, Room, accept}
@@ -24,6 +24,7 @@ use Rattle.contours.specs.Connect.{withContour}
 use Rattle.contours.specs.Renaming.{Renumbered, Relisted}
 use Rattle.contours.proofs.Lists.{All, all-of, keep-map, keep-perm, length-perm}
 use Rattle.contours.proofs.Places.{eqb-map}
+use Rattle.contours.proofs.Partners.{named-relisted}
 use Rattle.contours.proofs.Accepted.{soundly}
 use Rattle.contours.proofs.Renamed.{result-kept, events-kept, edges-kept}
 
@@ -109,6 +110,18 @@ module _ (ρ : ℕ → ℕ) (inj : (a b : ℕ) → ρ a ≡ ρ b → a ≡ b) wh
   twice-map [] r = refl
   twice-map (x ∷ l) r = rw (eqb-map ρ inj x r, listed-map l r, twice-map l r)
 
+-- ---- one check
+
+module _ (ρ : ℕ → ℕ) (l l′ : List ℕ) (p : Relisted ρ l l′) (number : ℕ) where
+  -- for a test that is kept on the records looked at
+  check-same : (D : ℕ → Type 0) (test test′ : ℕ → Bool) → ((r : ℕ) → D r → test′ (ρ r) ≡ test r) → All D l → SameNumber (toldLowest number test l) (toldLowest number test′ l′)
+  check-same D test test′ k h =
+      told-same number test test′ l l′ (sym (length-perm (keep-perm test′ p)) ∙ ap length (keep-map ρ D test test′ k l h) ∙ length-map (keep test l) ρ)
+
+  -- for one that is kept on all
+  check-any : (test test′ : ℕ → Bool) → ((r : ℕ) → test′ (ρ r) ≡ test r) → SameNumber (toldLowest number test l) (toldLowest number test′ l′)
+  check-any test test′ k = check-same (λ r. Unit {0}) test test′ (λ r u. k r) (all-of (λ (r : ℕ). Unit {0}) l (λ r m. tt))
+
 -- ---- the tests
 
 is-outside : (n r : ℕ) → ltb r n ≡ false → outside n r ≡ true
@@ -185,15 +198,6 @@ module _ {P : Type 0} (C : Coordinates P) (ρ : ℕ → ℕ) (n : ℕ) (row row�
     unfolding halfListed rename withContour
     half-kept r h = rw (result-kept C ρ n row row′ rn r h, rn .kept r (h .inside)) (ap (λ (t : Bool). inResult row r && not t) (listed-kept (row r .partner)))
 
-    -- one check, for a test that is kept on the listed records
-    check-same : (number : ℕ) (D : ℕ → Type 0) (test test′ : ℕ → Bool) → ((r : ℕ) → D r → test′ (ρ r) ≡ test r) → All D list
-        → SameNumber (toldLowest number test list) (toldLowest number test′ list′)
-    check-same number D test test′ k h =
-        told-same number test test′ list list′ (sym (length-perm (keep-perm test′ p)) ∙ ap length (keep-map ρ D test test′ k list h) ∙ length-map (keep test list) ρ)
-
-    anyone : All (λ (r : ℕ). Unit {0}) list
-    anyone = all-of (λ (r : ℕ). Unit {0}) list (λ r m. tt)
-
     sized-same : SameNumber (listSized list) (listSized list′)
     unfolding listSized
     sized-same = rw (sym (length-perm p) ∙ length-map list ρ) (self _)
@@ -204,8 +208,8 @@ module _ {P : Type 0} (C : Coordinates P) (ρ : ℕ → ℕ) (n : ℕ) (row row�
     accept-same points marks room =
         then-same _ _ sized-same
         (λ e1. then-same _ _ (self (sized points marks))
-        (λ e2. then-same _ _ (check-same 2 (λ r. Unit {0}) (unfitAt C row n) (unfitAt C row′ n) (λ r u. unfit-kept r) anyone)
-        (λ e3. then-same _ _ (check-same 4 (λ r. Unit {0}) (misplaced C row n list) (misplaced C row′ n list′) (λ r u. misplaced-kept r) anyone)
+        (λ e2. then-same _ _ (check-any ρ _ _ (named-relisted ρ n row row′ rn list list′ p) 2 (unfitAt C row n) (unfitAt C row′ n) unfit-kept)
+        (λ e3. then-same _ _ (check-any ρ list list′ p 4 (misplaced C row n list) (misplaced C row′ n list′) misplaced-kept)
         (λ e4. let sounds = soundly C row n list e3 e4 .0 in
-        then-same _ _ (check-same 8 (Sound C row n) (halfListed C row n list) (halfListed C row′ n list′) half-kept (all-of (Sound C row n) list sounds))
+        then-same _ _ (check-same ρ list list′ p 8 (Sound C row n) (halfListed C row n list) (halfListed C row′ n list′) half-kept (all-of (Sound C row n) list sounds))
         (λ e5. rw (events-kept C ρ n row row′ rn list list′ p sounds, edges-kept C ρ n row row′ rn list list′ p sounds) (self _))))))

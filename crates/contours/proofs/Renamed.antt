@@ -22,7 +22,7 @@ use Rattle.contours.proofs.Lists.{All, Pairs, all-of, all-map, all-perm
 use Rattle.contours.proofs.Sort.{Apart, sort-perm, sort-map}
 use Rattle.contours.proofs.Places.{place-map}
 use Rattle.contours.proofs.Accepted.{Accepted}
-use Rattle.contours.proofs.Good.{sorted, sound-result, valid-key}
+use Rattle.contours.proofs.Good.{sorted, in-list, sound-result, valid-key}
 
 module _ {P : Type 0} (C : Coordinates P) (ρ : ℕ → ℕ) (n : ℕ) (row row′ : ℕ → Event P) (rn : Renumbered ρ n row row′) where
   abbrev Fit : ℕ → Type 0
@@ -90,7 +90,7 @@ module _ {P : Type 0} (C : Coordinates P) (L : OrderLaws C) (fine : (p : P) → 
   Keyed′ r = Valid L (keyOf row′ r)
 
   both : (r : ℕ) → List·Memᴰ r (results row list) → Fits r × Keyed r
-  both r m = (sound-result C row n void list ok r m, valid-key C row n void list ok L fine r m)
+  both r m = (sound-result C row n void list ok r m, valid-key C row n void list ok L fine r (in-list C row n void list ok r m .0))
 
   res-fit : All Fits (results row list)
   res-fit = all-of Fits (results row list) (λ r m. both r m .0)

@@ -10,6 +10,7 @@ use Rattle.refusals.specs.declared.Refusal.{Refusal}
 use Rattle.events.specs.Coordinates.{Coordinates, same}
 use Rattle.events.specs.Event.{Event}
 use Rattle.order.proofs.Laws.{OrderLaws}
+use Rattle.checks.specs.Checks.{named}
 use Rattle.contours.specs.Result.{inResult, results, resultEdges}
 use Rattle.contours.specs.Table.{table, rowAt}
 use Rattle.contours.specs.Accept.{Room}
@@ -47,7 +48,7 @@ module _ {P : Type 0} (C : Coordinates P) (row : ℕ → Event P) (L : OrderLaws
     cause-not-5 (room5 u m t s) q = short s
       where
         half : length (resultEdges row list) + length (resultEdges row list) ≤ length (results row list)
-        half = edges-half (row 0 .point) (accepted-by C row n list (none-told 2 _ list u) (none-told 4 _ list m) (none-told 8 _ list t))
+        half = edges-half (row 0 .point) (accepted-by C row n list (none-told 2 _ (named row n list) u) (none-told 4 _ list m) (none-told 8 _ list t))
 
         short : Short room (length (results row list)) (length (resultEdges row list)) x → ⊥
         short (short-points a e) = omega (arith, a, h .points, results-few)

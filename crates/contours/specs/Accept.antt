@@ -1,5 +1,6 @@
 -- The checks of connection, each over all listed records before the next: 1, 2, 4, 8, 5. A test of a record is true where it strikes, and the
--- lowest record that it strikes is told. Looked at are the records of the list, and what they link to where a test of `checks` says so.
+-- lowest record that it strikes is told. Looked at are the records of the list, and what they link to where a test of `checks` says so; by 2 also their
+-- partners, since event order of a listed record reads the points of both ends.
 use mathlib.Core.Bool.{Bool, false, not, cond, _&&_, _||_}
 use mathlib.Core.Option.{Option, none, some}
 use mathlib.Core.List.{List, [], _∷_}
@@ -10,7 +11,7 @@ use Rattle.events.specs.Coordinates.{Coordinates}
 use Rattle.events.specs.Event.{Event}
 use Rattle.checks.specs.declared.Check.{Check}
 use Rattle.checks.specs.declared.Check.the-variants.{Passed, Refused}
-use Rattle.checks.specs.Checks.{maxEvents, unfitAt, mistaken, andThen, sized}
+use Rattle.checks.specs.Checks.{maxEvents, unfitAt, mistaken, named, andThen, sized}
 use Rattle.contours.specs.Result.{inResult, results, resultEdges}
 
 -- ---- the lowest record that a test strikes
@@ -75,7 +76,7 @@ unfoldable pub accept : {P : Type 0} → Coordinates P → (ℕ → Event P) →
 accept C row n points marks list room =
     andThen (listSized list)
     (andThen (sized points marks)
-    (andThen (toldLowest 2 (unfitAt C row n) list)
+    (andThen (toldLowest 2 (unfitAt C row n) (named row n list))
     (andThen (toldLowest 4 (misplaced C row n list) list)
     (andThen (toldLowest 8 (halfListed C row n list) list)
     (roomy room (length (results row list)) (length (resultEdges row list)))))))

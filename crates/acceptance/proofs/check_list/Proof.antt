@@ -4,7 +4,7 @@ use Rattle.acceptance.proofs.check_list.Statement.{statement}
 use Rattle.acceptance.proofs.check_list.Tie as tie
 
 returns : tie.Need-returns
-returns c = unfit-told _ _ _ _ _ _ (c .before .before .check-flaw .ensures) (c .before .is-refused .ensures) (c .if1 .taken)
+returns c = unfit-told _ _ _ _ _ _ (c .before .before .check-fit .ensures) (c .before .is-refused .ensures) (c .if1 .taken)
 
 returns-2 : tie.Need-returns-2
 returns-2 c =
@@ -16,10 +16,10 @@ returns-2 c =
     _
     _
     _
-    (fit .before .before .check-flaw .ensures)
+    (fit .before .before .check-fit .ensures)
     (fit .before .is-refused .ensures)
     (fit .if1 .left)
-    (c .before .before .check-flaw2 .ensures)
+    (c .before .before .check-flaw .ensures)
     (c .before .is-refused2 .ensures)
     (c .if2 .taken)
 
@@ -34,13 +34,13 @@ returns-3 c =
     _
     _
     _
-    (fit .before .before .check-flaw .ensures)
+    (fit .before .before .check-fit .ensures)
     (fit .before .is-refused .ensures)
     (fit .if1 .left)
-    (linked .before .before .check-flaw2 .ensures)
+    (linked .before .before .check-flaw .ensures)
     (linked .before .is-refused2 .ensures)
     (linked .if2 .left)
-    (c .before .before .check-flaw3 .ensures)
+    (c .before .before .check-flaw2 .ensures)
     (c .before .is-refused3 .ensures)
     (c .if3 .taken)
 
@@ -56,13 +56,13 @@ returns-4 c =
     _
     _
     _
-    (fit .before .before .check-flaw .ensures)
+    (fit .before .before .check-fit .ensures)
     (fit .before .is-refused .ensures)
     (fit .if1 .left)
-    (linked .before .before .check-flaw2 .ensures)
+    (linked .before .before .check-flaw .ensures)
     (linked .before .is-refused2 .ensures)
     (linked .if2 .left)
-    (whole .before .before .check-flaw3 .ensures)
+    (whole .before .before .check-flaw2 .ensures)
     (whole .before .is-refused3 .ensures)
     (whole .if3 .left)
     (c .check-room .ensures)

@@ -12,9 +12,5 @@ returns-2 : tie.Need-returns-2
 unfolding numberOf
 returns-2 c = rw (c .enum-told2 .given .1)
 
-returns-3 : tie.Need-returns-3
-unfolding numberOf
-returns-3 c = rw (c .enum-told3 .given .1)
-
 pub number-of-spec : {M : Type 1} → statement M
-number-of-spec = tie.close (tie.spec (λ c. search needs) (λ c. search needs) (λ c. search needs) returns returns-2 returns-3)
+number-of-spec = tie.close (tie.spec (λ c. search needs) (λ c. search needs) returns returns-2)

@@ -1,15 +1,17 @@
 -- From the list's end to its front, one record more each time.
 use borrow.Author.Needs.{needs}
+use mathlib.Core.Path.{sym, _∙_}
 use native.Mathlib.Omega.{arith}
 use Rattle.events.specs.Pool.{pool}
+use Rattle.contours.specs.Accept.{toldLowest}
 use Rattle.acceptance.specs.Flaws.{numberOf, flawed}
 use Rattle.acceptance.specs.OnPool.{toldFlaw}
-use Rattle.acceptance.proofs.Telling.{Telling, none-told, one-told, all-told}
+use Rattle.acceptance.proofs.Telling.{Telling, none-struck, one-more, none-told, one-told, all-told}
 use Rattle.acceptance.proofs.lowest.check_flaw.Statement.{statement}
 use Rattle.acceptance.proofs.lowest.check_flaw.Tie as tie
 
 abbrev Inv-loop : tie.InvT-loop
-Inv-loop points marks seen flaw list number told₀ i₀ told i = Telling number (flawed (pool points marks) seen flaw) list i told
+Inv-loop points marks seen flaw list number told₀ i₀ told i = Telling (toldLowest number (flawed (pool points marks) seen flaw)) list i told
 
 abbrev μ-loop : tie.MeasureT-loop
 μ-loop points marks seen flaw list number told₀ i₀ told i = i
@@ -20,11 +22,12 @@ shared-slice-read-r c = omega (arith, c .before .before .loop .inv .within)
 loop-again : tie.Need-loop-again Inv-loop μ-loop
 loop-again c =
     let begun = c .before .before .before .before .loop in
-    one-told _ _ _ _ _ (c .before .before .before .loop-test .taken) (begun .inv) (c .before .is-flawed .ensures) (c .told-also .ensures)
+    one-told _ _ _ _ (c .before .before .before .loop-test .taken) (begun .inv)
+    (λ l e. c .told-also .ensures ∙ rw (e, c .before .is-flawed .ensures) (sym (one-more _ _ _ l)))
 
 returns : tie.Need-returns Inv-loop μ-loop
 unfolding toldFlaw
-returns c = rw (← c .before .before .number-of .ensures) (all-told _ _ _ _ _ (c .loop-test .left) (c .before .loop .inv))
+returns c = rw (← c .before .before .number-of .ensures) (all-told _ _ _ _ (c .loop-test .left) (c .before .loop .inv))
 
 pub check-flaw-spec : {M : Type 1} → statement M
 check-flaw-spec =
@@ -33,7 +36,7 @@ check-flaw-spec =
     Inv-loop
     μ-loop
     (λ c κs. tt)
-    (λ c. none-told _ _ _)
+    (λ c. none-told _ _ (none-struck _ _))
     (λ c. omega arith)
     (λ c. omega arith)
     shared-slice-read-r
