@@ -58,6 +58,19 @@ static void refused(const char *text, uint64_t number, uint64_t at)
     EXPECT(place == at && length == 77 && out[0] == 1 && out[3] == 4);
 }
 
+/* A count of 65,520 digits, with its line feed, without it and with a wrong byte. */
+static void long_count(void)
+{
+    static char text[1 << 17] = "operation union\nsubject ";
+    size_t head = strlen(text);
+    memset(text + head, '9', 65520);
+    refused(text, 1, 2);
+    text[head + 65520] = '\n';
+    refused(text, 1, 2);
+    text[head + 65520] = 'x';
+    refused(text, 10, 2);
+}
+
 /* The header's own example. */
 static void example(void)
 {
@@ -81,6 +94,12 @@ int main(void)
     whole("examples/floor/floor.sheet", "examples/floor/floor.map");
     refused("", 10, 1);
     refused("operation union\nsubject 257\n", 1, 2);
+    refused("operation union\nsubject 257", 1, 2);
+    refused("operation union\nsubject 257x", 10, 2);
+    refused("operation union\nsubject 0257", 10, 2);
+    refused("operation union\nsubject 256", 10, 2);
+    refused("operation union\nsubject 0\nclip 257", 1, 3);
+    long_count();
     refused("operation union\nsubject 0\nclip 1\n", 10, 4);
     refused("operation union\nsubject 1\n0 7ff0000000000000 0000000000000000 4000000000000000 0000000000000000\nclip 0\n", 2, 0);
     refused("operation union\nsubject 1\n0 4000000000000000 0000000000000000 4000000000000000 0000000000000000\nclip 0\n", 3, 0);

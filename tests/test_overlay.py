@@ -127,6 +127,23 @@ class Refused(unittest.TestCase):
         self.told(sheet("xor", [wall] * 200, []).replace("clip 0", "clip 57"), 1, 203)
         self.assertNotIn("refused 1 ", overlay(sheet("xor", [wall] * 256, [])))
 
+    def test_bytes_that_end_in_a_count(self):
+        """A count that has passed the limit is 1 where no byte follows its digits; the program reads 65,536 bytes."""
+        wall = edge(0, 0, 0, 1, 1)
+        clip = sheet("xor", [wall] * 200, [])[: -len("0\n")]
+        for digits in ("257", "300", "4294967296", "18446744073709551616", "9" * 65520):
+            self.told("operation xor\nsubject " + digits, 1, 2)
+            self.told(clip + digits, 1, 203)
+            for more in ("x", " ", "\r\n", "\0"):
+                self.told("operation xor\nsubject " + digits[:1000] + more, 10, 2)
+            self.told("operation xor\nsubject 0" + digits, 10, 2)
+        for more in ("\n", "\nclip 0\n", "9" * 100000 + "\n", "x"):
+            self.told("operation xor\nsubject " + "9" * 65520 + more, 1, 2)
+        self.told(clip + "57", 1, 203)
+        for digits in ("", "0", "25", "256"):
+            self.told("operation xor\nsubject " + digits, 10, 2)
+        self.told(clip + "56", 10, 203)
+
     def test_edges(self):
         good = box(0, 0, 0, 1, 1)
         for number in ("7ff8000000000000", "7ff0000000000000", "fff0000000000000", "4630000000000001", "c630000000000001"):

@@ -75,6 +75,15 @@ def long_count(data, rng):
     return changed(rb"(?<=[a-z] )\d+", lambda word, rng: b"9" * rng.choice([10, 20, 40, 1000, 65530, 70000]))(data, rng)
 
 
+def cut_count(data, rng):
+    """The bytes end in a count's digits, or a byte after them."""
+    match = pick(rng, rb"(?<=[a-z] )\d+", data)
+    if not match:
+        return data
+    digits = rng.choice([match.group(), b"0300", b"9" * 20, b"1" + b"0" * 19, *NUMBERS])
+    return data[: match.start()] + digits + rng.choice([b"", b"", b"", b"x", b" ", b"\r"])
+
+
 KINDS = {
     "wrong word": changed(rb"[a-z]{3,}", lambda word, rng: rng.choice(WORDS)),
     "word of other case": changed(rb"[a-z]{3,}", lambda word, rng: rng.choice([word.upper(), word.title(), word[:-1]])),
@@ -99,6 +108,7 @@ KINDS = {
     "another count": changed(rb"(?<=[a-z] )\d+", lambda word, rng: b"%d" % abs(int(word[:9] or b"0") + rng.choice([-2, -1, 1, 2, 250, 256]))),
     "count too large": changed(rb"(?<=[a-z] )\d+", lambda _, rng: b"%d" % rng.choice([257, 258, 999, 2**32, 2**32 + 1, 2**64, 2**64 + 1])),
     "long count": long_count,
+    "cut in a count": cut_count,
     "another ring": changed(rb"(?<=\n)\d+(?= )", lambda _, rng: rng.choice(NUMBERS)),
     "no last line feed": lambda data, rng: data[:-1],
     "bytes after the end": lambda data, rng: data + some_bytes(rng, 6),

@@ -51,6 +51,10 @@ class Lines:
             raise Refused(10, self.number)
         return match.groups()
 
+    def cut(self, pattern):
+        """The next line, if it matches as far as it goes and the bytes end in it."""
+        return pattern.fullmatch(self.rest) if self.number == len(self.lines) else None
+
     def end(self):
         if self.number < len(self.lines) or self.rest:
             raise Refused(10, self.number + 1)
@@ -66,6 +70,10 @@ def number(bits):
 
 
 def read_count(lines, layer, already):
+    # Bytes may end in a count's digits: one above the limit stays so, however it would go on (docs/DECISIONS.md, 51).
+    cut = lines.cut(COUNT_LINE[layer])
+    if cut and is_above(cut[1], MAX_EDGES - already):
+        raise Refused(1, lines.number + 1)
     (digits,) = lines.take(COUNT_LINE[layer])
     if is_above(digits, MAX_EDGES - already):
         raise Refused(1, lines.number)

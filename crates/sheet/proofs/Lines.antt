@@ -5,7 +5,7 @@ use mathlib.Core.List.{List, [], _∷_}
 use Prim.Native.Nat.{ℕ, zero, suc, _+_, _≤_, _<_, min}
 use native.Mathlib.Omega.{arith}
 use borrow.Author.Tests.{lt-ltb, le-ltb, eq-eqb, ne-eqb}
-use lib.ListN.{length, drop}
+use lib.ListN.{length, drop, drop-of-length-le, length-drop}
 use lib.Seq.{drop-drop}
 use Rattle.class.specs.declared.Operation.the-variants.{Intersection, Difference, Union, Xor}
 use Rattle.text.specs.declared.digits.Read.{Read}
@@ -18,7 +18,7 @@ use Rattle.sheet.specs.declared.edges.Edge.{Edge}
 use Rattle.sheet.specs.declared.numerals.Ring as ring
 use Rattle.sheet.specs.declared.edges.ReadCorner as corner
 use Rattle.sheet.specs.Sheet.{operationLine, operationWord}
-use Rattle.sheet.specs.Reading.{Parsed, Got, Wrong, andThen, got, ended, numeral, ringBy, ringFrom, ringOf, numberOf, cornerOf, edgeOf, Counted, Count, Many, Malformed, countBy, countFrom, countOf, lineOf, operationOf}
+use Rattle.sheet.specs.Reading.{Parsed, Got, Wrong, andThen, got, ended, numeral, ringBy, ringFrom, ringOf, numberOf, cornerOf, edgeOf, Counted, Count, Many, Malformed, over, countWith, countBy, countFrom, countOf, lineOf, operationOf}
 use Rattle.sheet.specs.Shown.{shownRing, shownCorner}
 use Rattle.sheet.proofs.Places.{further, decimal-front, hex-front}
 
@@ -134,41 +134,59 @@ module _ (b : List ℕ) (at : ℕ) (r : ring.Ring) (hr : shownRing b r ≡ ringO
 
 -- ---- a count's line
 
+-- past the end nothing follows
+pub over-end : (b : List ℕ) (at : ℕ) → length b ≤ at → true ≡ over (drop at b)
+unfolding over
+over-end b at h = rw (drop-of-length-le b h)
+
+pub over-fed : (b : List ℕ) (at : ℕ) → at < length b → begins (10 ∷ []) (drop at b) ≡ over (drop at b)
+unfolding over
+over-fed b at h = rw (ne-eqb (length (drop at b)) 0 (λ e. omega (arith, length-drop at b)))
+
+module _ (b : List ℕ) (at n most : ℕ) where
+  pub count-none : n ≡ 0 → Malformed ≡ countFrom most n (drop at b)
+  unfolding countFrom
+  count-none e = rw (eq-eqb n 0 e)
+
+  module _ (z : n ≡ 0 → ⊥) (q : ℕ) (hq : q ≡ min (at + n) (length b)) where
+    digits-over : drop n (drop at b) ≡ drop q b
+    digits-over = sym (ap (λ (k : ℕ). drop k b) hq ∙ further b at n)
+
+    -- a wrong byte
+    pub count-wrong : over (drop q b) ≡ false → Malformed ≡ countFrom most n (drop at b)
+    unfolding countFrom
+    count-wrong e = rw (ne-eqb n 0 z, digits-over, e)
+
+    module _ (l : over (drop q b) ≡ true) (r : Read) (hr : r ≡ decimalAt b at n) where
+      by-number : countBy most r (drop q b) ≡ countFrom most n (drop at b)
+      unfolding countFrom
+      by-number = rw (hr, decimal-front b at n, ne-eqb n 0 z, digits-over, l)
+
+      pub count-long : r ≡ Nothing → Many ≡ countFrom most n (drop at b)
+      unfolding countBy
+      count-long e = rw e at by-number
+
+      module _ (v : ℕ) (e : r ≡ Value v) where
+        pub count-many : most < v → Many ≡ countFrom most n (drop at b)
+        unfolding countBy
+        count-many m = rw (e, lt-ltb most v m) at by-number
+
+        module _ (k : v ≤ most) where
+          pub count-read : begins (10 ∷ []) (drop q b) ≡ true → (m : ℕ) → m ≡ min (q + 1) (length b) → Count v (drop m b) ≡ countFrom most n (drop at b)
+          unfolding countBy countWith
+          count-read f m hm = rw (hm, further b q 1) (rw (e, le-ltb most v k, f) at by-number)
+
+          -- the bytes end
+          pub count-cut : begins (10 ∷ []) (drop q b) ≡ false → Malformed ≡ countFrom most n (drop at b)
+          unfolding countBy countWith
+          count-cut f = rw (e, le-ltb most v k, f) at by-number
+
 module _ (b word : List ℕ) (at most : ℕ) where
   pub count-word : begins word (drop at b) ≡ false → Malformed ≡ countOf word most (drop at b)
   unfolding countOf
   count-word h = rw h
 
-  module _ (h : begins word (drop at b) ≡ true) (p : ℕ) (hp : p ≡ min (at + length word) (length b)) (n : ℕ) (hn : n ≡ numeral (drop p b)) where
-    counting : countFrom most n (drop p b) ≡ countOf word most (drop at b)
-    unfolding countOf
-    counting = rw (h, ← further b at (length word), ← hp, ← hn)
-
-    pub count-none : n ≡ 0 → Malformed ≡ countOf word most (drop at b)
-    unfolding countFrom
-    count-none e = rw (eq-eqb n 0 e) at counting
-
-    module _ (z : n ≡ 0 → ⊥) (q : ℕ) (hq : q ≡ min (p + n) (length b)) where
-      digits-over : drop n (drop p b) ≡ drop q b
-      digits-over = sym (ap (λ (k : ℕ). drop k b) hq ∙ further b p n)
-
-      pub count-end : begins (10 ∷ []) (drop q b) ≡ false → Malformed ≡ countOf word most (drop at b)
-      unfolding countFrom
-      count-end e = rw (ne-eqb n 0 z, digits-over, e) at counting
-
-      module _ (l : begins (10 ∷ []) (drop q b) ≡ true) (r : Read) (hr : r ≡ decimalAt b p n) where
-        by-number : countBy most r (drop 1 (drop q b)) ≡ countOf word most (drop at b)
-        unfolding countFrom
-        by-number = rw (hr, decimal-front b p n) (rw (ne-eqb n 0 z, digits-over, l) at counting)
-
-        pub count-long : r ≡ Nothing → Many ≡ countOf word most (drop at b)
-        unfolding countBy
-        count-long e = rw e at by-number
-
-        pub count-many : (v : ℕ) → r ≡ Value v → most < v → Many ≡ countOf word most (drop at b)
-        unfolding countBy
-        count-many v e m = rw (e, lt-ltb most v m) at by-number
-
-        pub count-read : (v : ℕ) → r ≡ Value v → v ≤ most → (m : ℕ) → m ≡ min (q + 1) (length b) → Count v (drop m b) ≡ countOf word most (drop at b)
-        unfolding countBy
-        count-read v e k m hm = rw (hm, further b q 1) (rw (e, le-ltb most v k) at by-number)
+  pub counting : begins word (drop at b) ≡ true → (p : ℕ) → p ≡ min (at + length word) (length b) → (n : ℕ) → n ≡ numeral (drop p b)
+      → countFrom most n (drop p b) ≡ countOf word most (drop at b)
+  unfolding countOf
+  counting h p hp n hn = rw (h, ← further b at (length word), ← hp, ← hn)

@@ -17,7 +17,7 @@ use Rattle.sheet.specs.declared.edges.ReadEdge as edge
 use Rattle.sheet.specs.declared.layers.Count as count
 use Rattle.sheet.specs.declared.layers.Section.{Section}
 use Rattle.sheet.specs.declared.layers.Layer as layer
-use Rattle.sheet.specs.Reading.{Parsed, Got, Wrong, Edges, edgeOf, onEdge, edgesOf, Layer, Whole, Broken, wholeBy, Counted, Count, Many, Malformed, numeral, countBy, countFrom, countOf, layerBy, layerOf}
+use Rattle.sheet.specs.Reading.{Parsed, Got, Wrong, Edges, edgeOf, onEdge, edgesOf, Layer, Whole, Broken, wholeBy, Counted, Count, Many, Malformed, numeral, over, countWith, countBy, countFrom, countOf, layerBy, layerOf}
 use Rattle.sheet.specs.Shown.{shownEdge, shownCount, begun, shownLayer, countedLayer}
 
 -- ---- one edge
@@ -153,21 +153,22 @@ module _ (b word : List ℕ) (at most line : ℕ) (r : count.Count) (h : shownCo
 
 module _ (most n : ℕ) (t : List ℕ) where
   by-few : (r : Read) (s : List ℕ) → countBy most r s ≡ Count n t → n ≤ most
-  unfolding countBy
-  by-few (Value v) s e = go (ltb most v) refl e
+  unfolding countBy countWith
+  by-few (Value v) s e = go (ltb most v) refl (begins (10 ∷ []) s) e
     where
-      go : (x : Bool) → ltb most v ≡ x → cond x Many (Count v s) ≡ Count n t → n ≤ most
-      go true h f = let z : _≡_ {A = ℕ} 0 1 = cc in absurd (omega arith)
-      go false h f = let q : v ≡ n = cc in omega (arith, ltb-false most v h)
+      go : (x : Bool) → ltb most v ≡ x → (y : Bool) → cond x Many (cond y (Count v (drop 1 s)) Malformed) ≡ Count n t → n ≤ most
+      go true h y f = let z : _≡_ {A = ℕ} 0 1 = cc in absurd (omega arith)
+      go false h true f = let q : v ≡ n = cc in omega (arith, ltb-false most v h)
+      go false h false f = let z : _≡_ {A = ℕ} 0 1 = cc in absurd (omega arith)
   by-few Nothing s e = let z : _≡_ {A = ℕ} 0 1 = cc in absurd (omega arith)
 
   from-few : (k : ℕ) (s : List ℕ) → countFrom most k s ≡ Count n t → n ≤ most
   unfolding countFrom
-  from-few k s e = go (eqb k 0) (begins (10 ∷ []) (drop k s)) e
+  from-few k s e = go (eqb k 0) (over (drop k s)) e
     where
-      go : (x y : Bool) → cond x Malformed (cond y (countBy most (decimalAt s 0 k) (drop 1 (drop k s))) Malformed) ≡ Count n t → n ≤ most
+      go : (x y : Bool) → cond x Malformed (cond y (countBy most (decimalAt s 0 k) (drop k s)) Malformed) ≡ Count n t → n ≤ most
       go true y f = let z : _≡_ {A = ℕ} 0 1 = cc in absurd (omega arith)
-      go false true f = by-few (decimalAt s 0 k) (drop 1 (drop k s)) f
+      go false true f = by-few (decimalAt s 0 k) (drop k s) f
       go false false f = let z : _≡_ {A = ℕ} 0 1 = cc in absurd (omega arith)
 
   pub count-few : (word s : List ℕ) → countOf word most s ≡ Count n t → n ≤ most

@@ -1,6 +1,6 @@
 -- What is written in front is read, and what is read in front was written: lines and layers.
 use mathlib.Core.Path.{_≡_, refl, sym, ap, _∙_, subst₂}
-use mathlib.Core.Bool.{Bool, true, false, cond, _&&_}
+use mathlib.Core.Bool.{Bool, true, false, cond, _&&_, or-true}
 use mathlib.Core.List.{List, [], _∷_, _++_, append-assoc}
 use Prim.Native.Nat.{ℕ, zero, suc, _+_, _≤_, _<_}
 use native.Mathlib.Omega.{arith}
@@ -18,7 +18,7 @@ use Rattle.text.specs.Digits.{decimal, digitOf, hex, decimalAt}
 use Rattle.sheet.specs.declared.edges.Corner.{Corner}
 use Rattle.sheet.specs.declared.edges.Edge.{Edge}
 use Rattle.sheet.specs.Sheet.{Sheet, CornerFits, EdgeFits, AllFit, Fits, operationWord, operationLine, countLine, numberBytes, cornerBytes, edgeLine, edgeLines, layerBytes}
-use Rattle.sheet.specs.Reading.{Parsed, Got, Wrong, andThen, ended, run, numeral, ringOf, numberOf, cornerOf, edgeOf, Edges, onEdge, edgesOf, Counted, Count, Many, Malformed, countBy, countFrom, countOf, Layer, Whole, Broken, wholeBy, layerBy, layerOf, lineOf, operationOf}
+use Rattle.sheet.specs.Reading.{Parsed, Got, Wrong, andThen, ended, run, numeral, ringOf, numberOf, cornerOf, edgeOf, Edges, onEdge, edgesOf, Counted, Count, Many, Malformed, over, countWith, countBy, countFrom, countOf, Layer, Whole, Broken, wholeBy, layerBy, layerOf, lineOf, operationOf}
 use Rattle.sheet.proofs.Fronts.{word-front, word-split, then-got, number-front, number-split, decimal-some, numeral-front, decimal-front, numeral-split, ring-front, ring-split}
 use Rattle.sheet.proofs.Sections.{all}
 
@@ -144,31 +144,43 @@ ends : (t : List ℕ) → run (10 ∷ t) ≡ 0
 unfolding run digitOf
 ends t = refl
 
+over-front : (t : List ℕ) → over (10 ∷ t) ≡ true
+unfolding over
+over-front t = rw (word-front (10 ∷ []) t, or-true (eqb (length (10 ∷ t)) 0))
+
+with-front : (n : ℕ) (t : List ℕ) → countWith n (10 ∷ t) ≡ Count n t
+unfolding countWith
+with-front n t = rw (word-front (10 ∷ []) t)
+
 pub count-front : (word : List ℕ) (most n : ℕ) (t : List ℕ) → n ≤ most → n < 4294967296 → countOf word most (countLine word n ++ t) ≡ Count n t
 unfolding countOf countFrom countBy countLine
 count-front word most n t h k =
-    rw (append-assoc word (decimal n ++ (10 ∷ [])) t, word-front word ((decimal n ++ (10 ∷ [])) ++ t), drop-append-seam word ((decimal n ++ (10 ∷ [])) ++ t), append-assoc (decimal n) (10 ∷ []) t, numeral-front n (10 ∷ t) (ends t) (omega arith), ne-eqb (length (decimal n)) 0 (λ e. omega (arith, decimal-some n)), drop-append-seam (decimal n) (10 ∷ t), word-front (10 ∷ []) t, decimal-front n (10 ∷ t) (omega arith), le-ltb most n h)
+    rw (append-assoc word (decimal n ++ (10 ∷ [])) t, word-front word ((decimal n ++ (10 ∷ [])) ++ t), drop-append-seam word ((decimal n ++ (10 ∷ [])) ++ t), append-assoc (decimal n) (10 ∷ []) t, numeral-front n (10 ∷ t) (ends t) (omega arith), ne-eqb (length (decimal n)) 0 (λ e. omega (arith, decimal-some n)), drop-append-seam (decimal n) (10 ∷ t), over-front t, decimal-front n (10 ∷ t) (omega arith), le-ltb most n h, with-front n t)
 
 module _ (most n : ℕ) (t : List ℕ) where
-  by-split : (r : Read) (s : List ℕ) → countBy most r s ≡ Count n t → (r ≡ Value n) × (s ≡ t)
-  unfolding countBy
-  by-split (Value v) s e = go (ltb most v) e
+  by-split : (r : Read) (s : List ℕ) → countBy most r s ≡ Count n t → (r ≡ Value n) × (s ≡ 10 ∷ t)
+  unfolding countBy countWith
+  by-split (Value v) s e = go (ltb most v) (begins (10 ∷ []) s) refl e
     where
-      go : (x : Bool) → cond x Many (Count v s) ≡ Count n t → (Value v ≡ Value n) × (s ≡ t)
-      go true f = let z : _≡_ {A = ℕ} 0 1 = cc in absurd (omega arith)
-      go false f = let same : v ≡ n = cc in (ap Value same, cc)
+      go : (x y : Bool) → begins (10 ∷ []) s ≡ y → cond x Many (cond y (Count v (drop 1 s)) Malformed) ≡ Count n t → (Value v ≡ Value n) × (s ≡ 10 ∷ t)
+      go true y i f = let z : _≡_ {A = ℕ} 0 1 = cc in absurd (omega arith)
+      go false true i f =
+          let same : v ≡ n = cc in
+          let rest : drop 1 s ≡ t = cc in
+          (ap Value same, word-split (10 ∷ []) s i ∙ ap (λ (l : List ℕ). 10 ∷ l) rest)
+      go false false i f = let z : _≡_ {A = ℕ} 0 1 = cc in absurd (omega arith)
   by-split Nothing s e = let z : _≡_ {A = ℕ} 0 1 = cc in absurd (omega arith)
 
   from-split : (s : List ℕ) → countFrom most (numeral s) s ≡ Count n t → s ≡ decimal n ++ (10 ∷ t)
   unfolding countFrom
-  from-split s e = go (eqb (numeral s) 0) refl (begins (10 ∷ []) (drop (numeral s) s)) refl e
+  from-split s e = go (eqb (numeral s) 0) refl (over (drop (numeral s) s)) e
     where
-      go : (x : Bool) → eqb (numeral s) 0 ≡ x → (y : Bool) → begins (10 ∷ []) (drop (numeral s) s) ≡ y → cond x Malformed (cond y (countBy most (decimalAt s 0 (numeral s)) (drop 1 (drop (numeral s) s))) Malformed) ≡ Count n t → s ≡ decimal n ++ (10 ∷ t)
-      go true h y i f = let z : _≡_ {A = ℕ} 0 1 = cc in absurd (omega arith)
-      go false h true i f =
-          let p = by-split (decimalAt s 0 (numeral s)) (drop 1 (drop (numeral s) s)) f in
-          numeral-split s (numeral s) n refl (eqb-false (numeral s) 0 h) (p .0) ∙ ap (λ (l : List ℕ). decimal n ++ l) (word-split (10 ∷ []) (drop (numeral s) s) i ∙ ap (λ (l : List ℕ). 10 ∷ l) (p .1))
-      go false h false i f = let z : _≡_ {A = ℕ} 0 1 = cc in absurd (omega arith)
+      go : (x : Bool) → eqb (numeral s) 0 ≡ x → (y : Bool) → cond x Malformed (cond y (countBy most (decimalAt s 0 (numeral s)) (drop (numeral s) s)) Malformed) ≡ Count n t → s ≡ decimal n ++ (10 ∷ t)
+      go true h y f = let z : _≡_ {A = ℕ} 0 1 = cc in absurd (omega arith)
+      go false h true f =
+          let p = by-split (decimalAt s 0 (numeral s)) (drop (numeral s) s) f in
+          numeral-split s (numeral s) n refl (eqb-false (numeral s) 0 h) (p .0) ∙ ap (λ (l : List ℕ). decimal n ++ l) (p .1)
+      go false h false f = let z : _≡_ {A = ℕ} 0 1 = cc in absurd (omega arith)
 
   pub count-split : (word s : List ℕ) → countOf word most s ≡ Count n t → s ≡ countLine word n ++ t
   unfolding countOf countLine

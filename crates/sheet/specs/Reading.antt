@@ -1,6 +1,7 @@
 -- Reading bytes as a sheet, line by line from line 1. A line that is not what stands there is refusal 10 at that line, and so is one that is
--- missing or ends without its line feed; a count above what is left of the limit is refusal 1 at its line, however many digits it has.
-use mathlib.Core.Bool.{Bool, cond, _&&_}
+-- missing or ends without its line feed; a count above what is left of the limit is refusal 1 at its line, however many digits it has, and also
+-- where the bytes end in its digits.
+use mathlib.Core.Bool.{Bool, cond, _&&_, _||_}
 use mathlib.Core.List.{List, [], _∷_}
 use Prim.Native.Nat.{ℕ, zero, suc, _+_, _-_}
 use lib.Dec.{eqb, ltb}
@@ -89,13 +90,21 @@ pub data Counted : Type 0 where
   Many : Counted
   Malformed : Counted
 
+-- what follows its digits is a line feed, or nothing: a count that is above the limit stays so, however it would go on
+unfoldable pub over : List ℕ → Bool
+over s = eqb (length s) 0 || begins (10 ∷ []) s
+
+-- one within the limit wants its line feed
+unfoldable pub countWith : ℕ → List ℕ → Counted
+countWith v s = cond (begins (10 ∷ []) s) (Count v (drop 1 s)) Malformed
+
 -- a number of more than 19 digits is above every limit
 unfoldable pub countBy : ℕ → Read → List ℕ → Counted
-countBy most (Value v) s = cond (ltb most v) Many (Count v s)
+countBy most (Value v) s = cond (ltb most v) Many (countWith v s)
 countBy most Nothing s = Many
 
 unfoldable pub countFrom : ℕ → ℕ → List ℕ → Counted
-countFrom most n s = cond (eqb n 0) Malformed (cond (begins (10 ∷ []) (drop n s)) (countBy most (decimalAt s 0 n) (drop 1 (drop n s))) Malformed)
+countFrom most n s = cond (eqb n 0) Malformed (cond (over (drop n s)) (countBy most (decimalAt s 0 n) (drop n s)) Malformed)
 
 unfoldable pub countOf : List ℕ → ℕ → List ℕ → Counted
 countOf word most s = cond (begins word s) (countFrom most (numeral (drop (length word) s)) (drop (length word) s)) Malformed

@@ -4,7 +4,7 @@ ghost use mathlib.Core.List.{map};
 ghost use Prim.Native.Nat.{_+_};
 ghost use lib.ListN.{drop, length};
 ghost use lib.Seq.{sets};
-ghost use Rattle.sheet.specs.Reading.{countOf, edgesOf, wholeBy, layerOf};
+ghost use Rattle.sheet.specs.Reading.{over, countFrom, countOf, edgesOf, wholeBy, layerOf};
 ghost use Rattle.sheet.specs.Shown.{shownCount, begun, shownLayer, countedLayer};
 ghost use Rattle.sheet.specs.Stored.{endsOf, labelsOf};
 use crate::edges::ReadEdge;
@@ -27,7 +27,40 @@ enum Count {
     Malformed,
 }
 
-// The count after a word at `at`, at most `most`, and the place after its line.
+// Whether a line feed stands at `at`, or nothing.
+fn is_over(s: &[u8], at: usize) -> bool
+    ensures { λ r. ⌜ r ≡ over (drop at (now (s .entry))) ⌝ }
+{
+    if at >= s.len() {
+        return true;
+    }
+    has_word(s, at, b"\n")
+}
+
+// The count whose n digits stand at `at`, at most `most`, and the place after its line.
+fn count_from(s: &[u8], at: usize, n: usize, most: u32) -> Count
+    ensures { λ r. ⌜ shownCount (now (s .entry)) r ≡ countFrom most n (drop at (now (s .entry))) ⌝ }
+{
+    if n == 0 {
+        return Count::Malformed;
+    }
+    let end = after(at, n, s.len());
+    if !is_over(s, end) {
+        return Count::Malformed;
+    }
+    let Read::Value(v) = read_decimal(s, at, n) else {
+        return Count::Many;
+    };
+    if v > most as u64 {
+        return Count::Many;
+    }
+    if has_word(s, end, b"\n") {
+        return Count::Edges(v as u32, after(end, 1, s.len()));
+    }
+    Count::Malformed
+}
+
+// The count after a word at `at`.
 fn read_count(s: &[u8], at: usize, word: &[u8], most: u32) -> Count
     ensures { λ r. ⌜ shownCount (now (s .entry)) r ≡ countOf (now (word .entry)) most (drop at (now (s .entry))) ⌝ }
 {
@@ -35,21 +68,7 @@ fn read_count(s: &[u8], at: usize, word: &[u8], most: u32) -> Count
         return Count::Malformed;
     }
     let digits = after(at, word.len(), s.len());
-    let n = numeral(s, digits);
-    if n == 0 {
-        return Count::Malformed;
-    }
-    let end = after(digits, n, s.len());
-    if !has_word(s, end, b"\n") {
-        return Count::Malformed;
-    }
-    let Read::Value(v) = read_decimal(s, digits, n) else {
-        return Count::Many;
-    };
-    if v > most as u64 {
-        return Count::Many;
-    }
-    Count::Edges(v as u32, after(end, 1, s.len()))
+    count_from(s, digits, numeral(s, digits), most)
 }
 
 // How many edges were read, and the place after them.
