@@ -8,7 +8,7 @@ use native.Mathlib.Omega.{arith}
 use lib.ListN.{length, drop, getD}
 use lib.Seq.{drop-length}
 use Rattle.checks.specs.declared.Check.{Check}
-use Rattle.checks.specs.declared.Check.the-variants.{Passed, Refused}
+use Rattle.checks.specs.declared.Check.the-variants.{Passed}
 use Rattle.events.specs.Event.{Event}
 use Rattle.checks.specs.Checks.{mate, named}
 use Rattle.contours.specs.Accept.{atMost, lowest, refusedAt, toldLowest}

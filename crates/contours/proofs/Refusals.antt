@@ -16,7 +16,7 @@ use Rattle.events.specs.Event.{Event}
 use Rattle.events.specs.Renaming.{renameLink, rename}
 use Rattle.checks.specs.declared.Check.{Check}
 use Rattle.checks.specs.declared.Check.the-variants.{Passed, Refused}
-use Rattle.checks.specs.Checks.{outside, unpaired, alike, inOrder, misordered, notToLeft, misled, mistaken, unfitAt, named, andThen, sized}
+use Rattle.checks.specs.Checks.{outside, unpaired, alike, inOrder, misordered, notToLeft, misled, mistaken, unfitAt, andThen, sized}
 use Rattle.checks.specs.Sound.{Sound}
 use Rattle.contours.specs.Result.{keep, inResult}
 use Rattle.contours.specs.Accept.{atMost, lowest, refusedAt, toldLowest, listSized, listed, twice, misplaced, halfListed, Room, accept}

@@ -1,8 +1,8 @@
 -- The answers of the code that reads within one line, each by what was found before it.
-use mathlib.Core.Path.{_≡_, refl, sym, ap, _∙_}
-use mathlib.Core.Bool.{Bool, true, false, cond}
+use mathlib.Core.Path.{_≡_, sym, ap, _∙_}
+use mathlib.Core.Bool.{true, false}
 use mathlib.Core.List.{List, [], _∷_}
-use Prim.Native.Nat.{ℕ, zero, suc, _+_, _≤_, _<_, min}
+use Prim.Native.Nat.{ℕ, _+_, _≤_, _<_, min}
 use native.Mathlib.Omega.{arith}
 use borrow.Author.Tests.{lt-ltb, le-ltb, eq-eqb, ne-eqb}
 use lib.ListN.{length, drop, drop-of-length-le, length-drop}
@@ -14,11 +14,10 @@ use Rattle.text.specs.Quoted.{quoted}
 use Rattle.text.specs.Words.{begins}
 use Rattle.text.specs.Digits.{hexAt, decimalAt}
 use Rattle.sheet.specs.declared.edges.Corner.{Corner}
-use Rattle.sheet.specs.declared.edges.Edge.{Edge}
 use Rattle.sheet.specs.declared.numerals.Ring as ring
 use Rattle.sheet.specs.declared.edges.ReadCorner as corner
 use Rattle.sheet.specs.Sheet.{operationLine, operationWord}
-use Rattle.sheet.specs.Reading.{Parsed, Got, Wrong, andThen, got, ended, numeral, ringBy, ringFrom, ringOf, numberOf, cornerOf, edgeOf, Counted, Count, Many, Malformed, over, countWith, countBy, countFrom, countOf, lineOf, operationOf}
+use Rattle.sheet.specs.Reading.{Got, Wrong, andThen, got, ended, numeral, ringBy, ringFrom, ringOf, numberOf, cornerOf, edgeOf, Count, Many, Malformed, over, countWith, countBy, countFrom, countOf, lineOf, operationOf}
 use Rattle.sheet.specs.Shown.{shownRing, shownCorner}
 use Rattle.sheet.proofs.Places.{further, decimal-front, hex-front}
 

@@ -1,10 +1,10 @@
 -- What is written in front is read, and what is read in front was written: lines and layers.
 use mathlib.Core.Path.{_≡_, refl, sym, ap, _∙_, subst₂}
-use mathlib.Core.Bool.{Bool, true, false, cond, _&&_, or-true}
+use mathlib.Core.Bool.{Bool, true, false, cond, or-true}
 use mathlib.Core.List.{List, [], _∷_, _++_, append-assoc}
 use Prim.Native.Nat.{ℕ, zero, suc, _+_, _≤_, _<_}
 use native.Mathlib.Omega.{arith}
-use borrow.Author.Tests.{lt-ltb, le-ltb, ltb-true, ltb-false, ne-eqb, eqb-false}
+use borrow.Author.Tests.{le-ltb, ne-eqb, eqb-false}
 use lib.Dec.{eqb, ltb}
 use lib.ListN.{length, drop}
 use lib.Seq.{drop-append-seam}
@@ -14,12 +14,12 @@ use Rattle.text.specs.declared.digits.Read.{Read}
 use Rattle.text.specs.declared.digits.Read.the-variants.{Value, Nothing}
 use Rattle.text.specs.Quoted.{quoted}
 use Rattle.text.specs.Words.{begins}
-use Rattle.text.specs.Digits.{decimal, digitOf, hex, decimalAt}
+use Rattle.text.specs.Digits.{decimal, digitOf, decimalAt}
 use Rattle.sheet.specs.declared.edges.Corner.{Corner}
 use Rattle.sheet.specs.declared.edges.Edge.{Edge}
-use Rattle.sheet.specs.Sheet.{Sheet, CornerFits, EdgeFits, AllFit, Fits, operationWord, operationLine, countLine, numberBytes, cornerBytes, edgeLine, edgeLines, layerBytes}
-use Rattle.sheet.specs.Reading.{Parsed, Got, Wrong, andThen, ended, run, numeral, ringOf, numberOf, cornerOf, edgeOf, Edges, onEdge, edgesOf, Counted, Count, Many, Malformed, over, countWith, countBy, countFrom, countOf, Layer, Whole, Broken, wholeBy, layerBy, layerOf, lineOf, operationOf}
-use Rattle.sheet.proofs.Fronts.{word-front, word-split, then-got, number-front, number-split, decimal-some, numeral-front, decimal-front, numeral-split, ring-front, ring-split}
+use Rattle.sheet.specs.Sheet.{CornerFits, EdgeFits, AllFit, operationWord, operationLine, countLine, numberBytes, cornerBytes, edgeLine, edgeLines, layerBytes}
+use Rattle.sheet.specs.Reading.{Parsed, Got, Wrong, andThen, ended, run, numeral, ringOf, numberOf, cornerOf, edgeOf, onEdge, edgesOf, Counted, Count, Many, Malformed, over, countWith, countBy, countFrom, countOf, Whole, wholeBy, layerBy, layerOf, lineOf, operationOf}
+use Rattle.sheet.proofs.Fronts.{word-front, word-split, number-front, number-split, decimal-some, numeral-front, decimal-front, numeral-split, ring-front, ring-split}
 use Rattle.sheet.proofs.Sections.{all}
 
 -- what holds of what is read holds of what is told

@@ -1,10 +1,9 @@
 -- From the list's end to its front, one record more each time.
-use borrow.Author.Needs.{needs}
 use mathlib.Core.Path.{sym, _∙_}
 use native.Mathlib.Omega.{arith}
 use Rattle.events.specs.Pool.{pool}
 use Rattle.contours.specs.Accept.{toldLowest}
-use Rattle.acceptance.specs.Flaws.{numberOf, flawed}
+use Rattle.acceptance.specs.Flaws.{flawed}
 use Rattle.acceptance.specs.OnPool.{toldFlaw}
 use Rattle.acceptance.proofs.Telling.{Telling, none-struck, one-more, none-told, one-told, all-told}
 use Rattle.acceptance.proofs.lowest.check_flaw.Statement.{statement}
