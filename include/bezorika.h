@@ -82,7 +82,7 @@ enum { BEZORIKA_PLAIN = 0, BEZORIKA_ORDERED = 1 };
    and 2i+1; *used is how many records there are.
 
    Refuses by 1 (place 0 the edges, 1 the pool), 2 and 3 (place: the edge), all
-   arrays as lent. */
+   arrays and *used as lent. */
 uint64_t bezorika_load(const double (*ends)[4], size_t ends_length,
                        const uint32_t (*labels)[2], size_t labels_length,
                        double (*points)[2], size_t points_length,
@@ -98,8 +98,8 @@ enum { BEZORIKA_INTERSECTION = 0, BEZORIKA_DIFFERENCE = 1, BEZORIKA_UNION = 2, B
    divisions made, records in use, and 1 if at some taking another waiting event
    tied with the one taken.
 
-   Refuses by 1, 2 and 4 with all arrays as lent; by 6 and 7 with all done before
-   it, as counts tells. What is not refused by 6 comes out the same in every
+   Refuses by 1, 2 and 4 with all arrays and counts as lent; by 6 and 7 with all
+   done before it, as counts tells. What is not refused by 6 comes out the same in every
    larger pool, so a small one may be tried first. */
 uint64_t bezorika_subdivide(double (*points)[2], size_t points_length,
                             uint32_t (*marks)[12], size_t marks_length,
@@ -112,8 +112,8 @@ uint64_t bezorika_subdivide(double (*points)[2], size_t points_length,
    counts: contours, corners, holes, and contours whose first and last corners
    differ.
 
-   Refuses by 1, 2, 4, 8 and 5 with all arrays as lent; by 9 with the contours
-   finished before it. */
+   Refuses by 1, 2, 4, 8 and 5 with all arrays and counts as lent; by 9 with the
+   contours finished before it, as counts tells. */
 uint64_t bezorika_connect(const double (*points)[2], size_t points_length,
                           uint32_t (*marks)[12], size_t marks_length,
                           const uint32_t *list, size_t list_length,

@@ -34,35 +34,43 @@ struct edges {
 static struct pool pool, lent;
 static struct edges edges;
 static uint32_t taken[SIZE], taken_lent[SIZE];
-static uint32_t used, counts[4];
+static uint32_t used, used_lent, counts[4], counts_lent[4];
 static uint32_t mode;
 static uint64_t place;
 
-/* Numbers that nobody else stores, so that a place which was written shows. */
+/* What every array and every output is full of when it is lent: a number that no call could have told, so that a place which was
+   written shows; and 1, which reads as a flag that is set and as a link. */
+static const uint32_t fillers[2] = {4009754624u, 1};
+static uint32_t filler;
+
+/* What is lent to the next call. */
+static void keep(void)
+{
+    for (size_t k = 0; k < 4; k++)
+        counts[k] = counts_lent[k] = filler;
+    place = filler;
+    used_lent = used;
+    memcpy(&lent, &pool, sizeof pool);
+    memcpy(taken_lent, taken, sizeof taken);
+}
+
 static void fill(void)
 {
     for (size_t i = 0; i < SIZE; i++) {
         pool.points[i][0] = pool.points[i][1] = -7.5;
         for (size_t k = 0; k < 12; k++)
-            pool.marks[i][k] = 77;
-        taken[i] = 99;
+            pool.marks[i][k] = filler;
+        taken[i] = filler;
     }
-    memcpy(&lent, &pool, sizeof pool);
-    memcpy(taken_lent, taken, sizeof taken);
-    used = 77;
-    place = 77;
-    memset(counts, 0, sizeof counts);
+    used = filler;
+    keep();
 }
 
-static void keep(void)
-{
-    memcpy(&lent, &pool, sizeof pool);
-    memcpy(taken_lent, taken, sizeof taken);
-}
-
+/* The pool, the taken list and every output but the place. */
 static int as_lent(void)
 {
-    return memcmp(&lent, &pool, sizeof pool) == 0 && memcmp(taken_lent, taken, sizeof taken) == 0;
+    return memcmp(&lent, &pool, sizeof pool) == 0 && memcmp(taken_lent, taken, sizeof taken) == 0
+        && memcmp(counts_lent, counts, sizeof counts) == 0 && used == used_lent;
 }
 
 /* Places from n on. */
@@ -123,10 +131,10 @@ static void loading_sizes(void)
         edge(1, 0, i, 0, i, 1);
     fill();
     EXPECT(load_sized(2048, 2048, 4096, 4096) == 0 && used == 4096);
-    EXPECT(rest_as_lent(4096) && place == 77);
+    EXPECT(rest_as_lent(4096) && place == filler);
     fill();
     EXPECT(load_sized(2049, 2049, 4096, 4096) == 1 && place == 0);
-    EXPECT(as_lent() && used == 77);
+    EXPECT(as_lent());
     EXPECT(load_sized(2, 3, 8, 8) == 1 && place == 0 && as_lent());
     EXPECT(load_sized(2, 2, 8, 7) == 1 && place == 1 && as_lent());
     EXPECT(load_sized(2, 2, 4097, 4097) == 1 && place == 1 && as_lent());
@@ -135,7 +143,7 @@ static void loading_sizes(void)
     EXPECT(load_sized(2049, 2049, 8, 7) == 1 && place == 0 && as_lent());
     EXPECT(load_sized(2, 2, 4, 4) == 0 && used == 4 && rest_as_lent(4));
     fill();
-    EXPECT(load_sized(0, 0, 0, 0) == 0 && used == 0 && as_lent());
+    EXPECT(load_sized(0, 0, 0, 0) == 0 && used == 0 && rest_as_lent(0));
 }
 
 static void loading_numbers(void)
@@ -153,7 +161,7 @@ static void loading_numbers(void)
             edge(1, 0, 0, 0, 1, 1);
             edges.ends[1][j] = wrong[k];
             fill();
-            EXPECT(load(8) == 2 && place == 1 && as_lent() && used == 77);
+            EXPECT(load(8) == 2 && place == 1 && as_lent());
         }
     /* each edge in turn: an earlier 3 before a later 2, and of one edge 2 before 3 */
     no_edges();
@@ -208,7 +216,6 @@ static void sweep_sizes(void)
     EXPECT(sweep_sized(0, 64, 64, 65, 16) == 1 && place == 1 && as_lent());
     EXPECT(sweep_sized(0, 64, 64, 64, 65) == 1 && place == 1 && as_lent());
     EXPECT(sweep_sized(0, 4097, 4097, 4097, 16) == 1 && place == 1 && as_lent());
-    EXPECT(counts[0] == 0 && counts[1] == 0 && counts[3] == 0);
 }
 
 /* One mark of a record changed: refused by 4 at the lowest record that shows it. */
@@ -407,14 +414,12 @@ static void fill_outlines(void)
     for (size_t i = 0; i < SIZE; i++) {
         corners[i][0] = corners[i][1] = -7.5;
         for (size_t k = 0; k < 6; k++)
-            contours[i][k] = 77;
-        holes[i] = 77;
+            contours[i][k] = filler;
+        holes[i] = filler;
     }
     memcpy(corners_lent, corners, sizeof corners);
     memcpy(contours_lent, contours, sizeof contours);
     memcpy(holes_lent, holes, sizeof holes);
-    memset(counts, 0, sizeof counts);
-    place = 77;
     keep();
 }
 
@@ -466,11 +471,12 @@ static void connect_squares(void)
     EXPECT(connect(256, listed) == 0);
     EXPECT(counts[0] == 1 && counts[1] == 5 && counts[2] == 0 && counts[3] == 0);
     EXPECT(has_corners(0, zone, 5) && memcmp(contours[0], row, sizeof row) == 0);
-    EXPECT(outlines_as_lent(5, 1, 0) && place == 77);
+    EXPECT(outlines_as_lent(5, 1, 0) && place == filler);
     int numbered = 0;
     for (int i = 0; i < 24; i++)
         numbered += pool.marks[i][10] == 1 && pool.marks[i][11] == 0;
-    EXPECT(numbered == 8 && rest_as_lent(24));
+    /* 1s say that a place has a contour number, and such a number is forgotten */
+    EXPECT(filler == 1 || (numbered == 8 && rest_as_lent(24)));
 }
 
 static void connect_touching(void)
@@ -656,7 +662,7 @@ static void connect_loose(void)
     EXPECT(!stray && pool.marks[place][10] == 0);
 }
 
-int main(void)
+static void run(void)
 {
     loading_sizes();
     loading_numbers();
@@ -683,6 +689,14 @@ int main(void)
     connect_half_listed();
     connect_room();
     connect_loose();
+}
+
+int main(void)
+{
+    for (int i = 0; i < 2; i++) {
+        filler = fillers[i];
+        run();
+    }
     printf("stages.c: %d checks, %d failed\n", ran, failed);
     return failed != 0;
 }

@@ -1,6 +1,6 @@
 -- What a C caller is told by the stages: the number of the refusal, 0 where there is none, and the outputs. An output that the answer does not
 -- speak of is as it was lent.
-use mathlib.Core.Bool.{Bool, cond}
+use mathlib.Core.Bool.{Bool, cond, _||_}
 use mathlib.Core.List.{List, [], _∷_}
 use Prim.Native.Nat.{ℕ}
 use lib.Dec.{eqb}
@@ -30,6 +30,16 @@ unfoldable pub loadPlace : Loaded → ℕ → ℕ
 loadPlace (AllLoaded n) lent = lent
 loadPlace (NotLoaded why) lent = why .place
 
+-- ---- counts
+
+-- refused by the checks of the sweep or of connection, and so before anything is done
+unfoldable pub byChecks : (number : ℕ) → Bool
+byChecks number = eqb number 1 || (eqb number 2 || (eqb number 4 || (eqb number 8 || eqb number 5)))
+
+-- told by a call that has done something
+unfoldable pub countsBy : (number : ℕ) → (told lent : List ℕ) → List ℕ
+countsBy number told lent = cond (byChecks number) lent told
+
 -- ---- the sweep
 
 -- a number that is no operation stands for the last
@@ -45,8 +55,8 @@ sweepPlace AllSwept lent = lent
 sweepPlace (NotSwept why) lent = why .place
 
 -- events taken, divisions made, places in use, and whether a tie was met
-unfoldable pub sweepCounts : Swept → List ℕ
-sweepCounts s = s .taken ∷ s .divisions ∷ s .used ∷ flagNumber (s .tied) ∷ []
+unfoldable pub sweepCounts : Swept → List ℕ → List ℕ
+sweepCounts s = countsBy (sweepNumber (s .outcome)) (s .taken ∷ s .divisions ∷ s .used ∷ flagNumber (s .tied) ∷ [])
 
 -- ---- connection
 
@@ -59,5 +69,5 @@ connectPlace AllConnected lent = lent
 connectPlace (NotConnected why) lent = why .place
 
 -- contours, corners, holes, contours that are open
-unfoldable pub connectCounts : Connected → List ℕ
-connectCounts c = c .contours ∷ c .corners ∷ c .holes ∷ c .«open» ∷ []
+unfoldable pub connectCounts : Connected → List ℕ → List ℕ
+connectCounts c = countsBy (connectNumber (c .outcome)) (c .contours ∷ c .corners ∷ c .holes ∷ c .«open» ∷ [])

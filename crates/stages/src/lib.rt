@@ -6,14 +6,17 @@ ghost use Rattle.loading.specs.OnPool as Loading;
 ghost use Rattle.sweep.specs.OnPool.{subdividePool};
 ghost use Rattle.connection.specs.Connection.{lent, connectEdges};
 ghost use Rattle.stages.specs.Told as Told;
-ghost use Rattle.stages.specs.Told.{operationOf};
+ghost use Rattle.stages.specs.Told.{operationOf, byChecks, countsBy};
 use class::Operation;
-use connection::Connected;
 use connection::connect_edges;
 use events::pool::number_of_flag;
 use loading::Loaded;
 use loading::load;
-use sweep::Swept;
+use refusals::COORDINATE;
+use refusals::HALF_EDGE;
+use refusals::LINK;
+use refusals::ROOM;
+use refusals::SIZE;
 use sweep::subdivide;
 
 #[no_mangle]
@@ -53,10 +56,27 @@ fn operation_of(n: u32) -> Operation
     }
 }
 
-fn tell_swept(s: Swept, counts: &mut [u32; 4])
-    ensures { λ _. ⌜ now (counts .exit) ≡ Told.sweepCounts s ⌝ }
+fn is_by_checks(number: u64) -> bool
+    ensures { λ r. ⌜ r ≡ byChecks number ⌝ }
 {
-    *counts = [s.taken, s.divisions, s.used, number_of_flag(s.tied)];
+    match number {
+        SIZE => true,
+        COORDINATE => true,
+        LINK => true,
+        HALF_EDGE => true,
+        ROOM => true,
+        _ => false,
+    }
+}
+
+// A call that its checks refuse has counted nothing.
+fn tell_counts(number: u64, told: [u32; 4], counts: &mut [u32; 4])
+    ensures { λ _. ⌜ now (counts .exit) ≡ countsBy number told (now (counts .entry)) ⌝ }
+{
+    if is_by_checks(number) {
+        return;
+    }
+    *counts = told;
 }
 
 fn tell_end(outcome: sweep::Outcome, place: &mut u64) -> u64
@@ -86,19 +106,15 @@ pub extern "C" fn bezorika_subdivide(
     ensures { λ r. ⌜ r ≡ Told.sweepNumber (subdividePool (operationOf operation) mode (pool (now (points .entry)) (now (marks .entry))) loaded (now (taken .entry)) .answer .outcome) ⌝ }
     ensures { λ _. ⌜ pool (now (points .exit)) (now (marks .exit)) ≡ subdividePool (operationOf operation) mode (pool (now (points .entry)) (now (marks .entry))) loaded (now (taken .entry)) .pool ⌝ }
     ensures { λ _. ⌜ now (taken .exit) ≡ subdividePool (operationOf operation) mode (pool (now (points .entry)) (now (marks .entry))) loaded (now (taken .entry)) .taken ⌝ }
-    ensures { λ _. ⌜ now (counts .exit) ≡ Told.sweepCounts (subdividePool (operationOf operation) mode (pool (now (points .entry)) (now (marks .entry))) loaded (now (taken .entry)) .answer) ⌝ }
+    ensures { λ _. ⌜ now (counts .exit) ≡ Told.sweepCounts (subdividePool (operationOf operation) mode (pool (now (points .entry)) (now (marks .entry))) loaded (now (taken .entry)) .answer) (now (counts .entry)) ⌝ }
     ensures { λ _. ⌜ now (place .exit) ≡ Told.sweepPlace (subdividePool (operationOf operation) mode (pool (now (points .entry)) (now (marks .entry))) loaded (now (taken .entry)) .answer .outcome) (now (place .entry)) ⌝ }
 {
     let s = subdivide(points, marks, loaded, operation_of(operation), mode, taken);
-    tell_swept(s, counts);
     let outcome = s.outcome;
-    tell_end(outcome, place)
-}
-
-fn tell_connected(c: Connected, counts: &mut [u32; 4])
-    ensures { λ _. ⌜ now (counts .exit) ≡ Told.connectCounts c ⌝ }
-{
-    *counts = [c.contours, c.corners, c.holes, c.open];
+    let number = tell_end(outcome, place);
+    let told = [s.taken, s.divisions, s.used, number_of_flag(s.tied)];
+    tell_counts(number, told, counts);
+    number
 }
 
 fn tell_connection(outcome: connection::Outcome, place: &mut u64) -> u64
@@ -128,11 +144,13 @@ pub extern "C" fn bezorika_connect(
     ensures { λ r. ⌜ r ≡ Told.connectNumber (connectEdges (pool (now (points .entry)) (now (marks .entry))) (now (list .entry)) (lent (now (corners .entry)) (now (contours .entry)) (now (holes .entry))) .answer .outcome) ⌝ }
     ensures { λ _. ⌜ pool (now (points .entry)) (now (marks .exit)) ≡ connectEdges (pool (now (points .entry)) (now (marks .entry))) (now (list .entry)) (lent (now (corners .entry)) (now (contours .entry)) (now (holes .entry))) .pool ⌝ }
     ensures { λ _. ⌜ lent (now (corners .exit)) (now (contours .exit)) (now (holes .exit)) ≡ connectEdges (pool (now (points .entry)) (now (marks .entry))) (now (list .entry)) (lent (now (corners .entry)) (now (contours .entry)) (now (holes .entry))) .outlines ⌝ }
-    ensures { λ _. ⌜ now (counts .exit) ≡ Told.connectCounts (connectEdges (pool (now (points .entry)) (now (marks .entry))) (now (list .entry)) (lent (now (corners .entry)) (now (contours .entry)) (now (holes .entry))) .answer) ⌝ }
+    ensures { λ _. ⌜ now (counts .exit) ≡ Told.connectCounts (connectEdges (pool (now (points .entry)) (now (marks .entry))) (now (list .entry)) (lent (now (corners .entry)) (now (contours .entry)) (now (holes .entry))) .answer) (now (counts .entry)) ⌝ }
     ensures { λ _. ⌜ now (place .exit) ≡ Told.connectPlace (connectEdges (pool (now (points .entry)) (now (marks .entry))) (now (list .entry)) (lent (now (corners .entry)) (now (contours .entry)) (now (holes .entry))) .answer .outcome) (now (place .entry)) ⌝ }
 {
     let c = connect_edges(points, marks, list, corners, contours, holes);
-    tell_connected(c, counts);
     let outcome = c.outcome;
-    tell_connection(outcome, place)
+    let number = tell_connection(outcome, place);
+    let told = [c.contours, c.corners, c.holes, c.open];
+    tell_counts(number, told, counts);
+    number
 }
