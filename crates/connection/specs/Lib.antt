@@ -1,3 +1,4 @@
 -- Connection as a call on lent arrays.
 pub mod Connection
+pub mod Answer
 pub mod Steps

@@ -1,3 +1,4 @@
 -- Loading: edges become events.
 pub mod Loading
 pub mod OnPool
+pub mod Answer

@@ -1,2 +1,3 @@
 -- Overlay's work: from the bytes of a sheet to the bytes of its contours.
 pub mod Overlay
+pub mod Answer

@@ -1,34 +1,38 @@
--- What a C caller is told by the stages: the number of the refusal, 0 where there is none, and the outputs. An output that the answer does not
--- speak of is as it was lent.
+-- What a C caller is told by the stages: which output gets which value of the answer (`specs/Answer.antt` of each stage). An output that the answer
+-- does not speak of is as it was lent.
+use mathlib.Core.Path.{_≡_}
 use mathlib.Core.Bool.{Bool, cond, _||_}
 use mathlib.Core.List.{List, [], _∷_}
 use Prim.Native.Nat.{ℕ}
 use lib.Dec.{eqb}
-use Rattle.events.specs.Pool.{flagNumber}
+use lib.ListN.{getD}
+use Rattle.events.specs.Pool.{Pool, flagNumber}
 use Rattle.class.specs.declared.Operation.{Operation}
 use Rattle.class.specs.declared.Operation.the-variants.{Intersection, Difference, Union, Xor}
 use Rattle.loading.specs.declared.Loaded.{Loaded}
-use Rattle.loading.specs.declared.Loaded.the-variants.{Done as AllLoaded, Refused as NotLoaded}
+use Rattle.loading.specs.declared.Loaded.the-variants.{Done, Refused}
+use Rattle.loading.specs.Answer as LoadAnswer
+use Rattle.loading.specs.OnPool as Load
 use Rattle.sweep.specs.declared.Swept.{Swept}
-use Rattle.sweep.specs.declared.Outcome as Sweep
-use Rattle.sweep.specs.declared.Outcome.the-variants.{Done as AllSwept, Refused as NotSwept}
+use Rattle.sweep.specs.declared.Outcome as SweepEnd
+use Rattle.sweep.specs.Answer as SweepAnswer
+use Rattle.sweep.specs.OnPool as Sweep
 use Rattle.connection.specs.declared.Connected.{Connected}
-use Rattle.connection.specs.declared.Outcome as Connection
-use Rattle.connection.specs.declared.Outcome.the-variants.{Done as AllConnected, Refused as NotConnected}
+use Rattle.connection.specs.declared.Outcome as ConnectEnd
+use Rattle.connection.specs.Answer as ConnectAnswer
+use Rattle.connection.specs.Connection as Connection
+use Rattle.connection.specs.Connection.{Lent}
 
 -- ---- loading
 
-unfoldable pub loadNumber : Loaded → ℕ
-loadNumber (AllLoaded n) = 0
-loadNumber (NotLoaded why) = why .number
-
+-- of an answer that is done the value is the places in use, of a refusal its place
 unfoldable pub loadUsed : Loaded → ℕ → ℕ
-loadUsed (AllLoaded n) lent = n
-loadUsed (NotLoaded why) lent = lent
+loadUsed (Done n) lent = getD (LoadAnswer.valuesOf (Done n)) 0 lent
+loadUsed (Refused why) lent = lent
 
 unfoldable pub loadPlace : Loaded → ℕ → ℕ
-loadPlace (AllLoaded n) lent = lent
-loadPlace (NotLoaded why) lent = why .place
+loadPlace (Done n) lent = lent
+loadPlace (Refused why) lent = getD (LoadAnswer.valuesOf (Refused why)) 0 lent
 
 -- ---- counts
 
@@ -46,28 +50,34 @@ countsBy number told lent = cond (byChecks number) lent told
 unfoldable pub operationOf : ℕ → Operation
 operationOf n = cond (eqb n 0) Intersection (cond (eqb n 1) Difference (cond (eqb n 2) Union Xor))
 
-unfoldable pub sweepNumber : Sweep.Outcome → ℕ
-sweepNumber AllSwept = 0
-sweepNumber (NotSwept why) = why .number
-
-unfoldable pub sweepPlace : Sweep.Outcome → ℕ → ℕ
-sweepPlace AllSwept lent = lent
-sweepPlace (NotSwept why) lent = why .place
+unfoldable pub sweepPlace : SweepEnd.Outcome → ℕ → ℕ
+sweepPlace end lent = getD (SweepAnswer.valuesOf end) 0 lent
 
 -- events taken, divisions made, places in use, and whether a tie was met
 unfoldable pub sweepCounts : Swept → List ℕ → List ℕ
-sweepCounts s = countsBy (sweepNumber (s .outcome)) (s .taken ∷ s .divisions ∷ s .used ∷ flagNumber (s .tied) ∷ [])
+sweepCounts s = countsBy (SweepAnswer.numberOf (s .outcome)) (s .taken ∷ s .divisions ∷ s .used ∷ flagNumber (s .tied) ∷ [])
 
 -- ---- connection
 
-unfoldable pub connectNumber : Connection.Outcome → ℕ
-connectNumber AllConnected = 0
-connectNumber (NotConnected why) = why .number
-
-unfoldable pub connectPlace : Connection.Outcome → ℕ → ℕ
-connectPlace AllConnected lent = lent
-connectPlace (NotConnected why) lent = why .place
+unfoldable pub connectPlace : ConnectEnd.Outcome → ℕ → ℕ
+connectPlace end lent = getD (ConnectAnswer.valuesOf end) 0 lent
 
 -- contours, corners, holes, contours that are open
 unfoldable pub connectCounts : Connected → List ℕ → List ℕ
-connectCounts c = countsBy (connectNumber (c .outcome)) (c .contours ∷ c .corners ∷ c .holes ∷ c .«open» ∷ [])
+connectCounts c = countsBy (ConnectAnswer.numberOf (c .outcome)) (c .contours ∷ c .corners ∷ c .holes ∷ c .«open» ∷ [])
+
+-- ---- a call that its checks refuse leaves everything as lent
+
+pub record LoadAsLent (x : Load.After) (p : Pool) (lent : ℕ) : Type 0 where
+  pub pool : x .pool ≡ p
+  pub used : loadUsed (x .answer) lent ≡ lent
+
+pub record SweepAsLent (x : Sweep.After) (p : Pool) (list lent : List ℕ) : Type 0 where
+  pub pool : x .pool ≡ p
+  pub taken : x .taken ≡ list
+  pub counts : sweepCounts (x .answer) lent ≡ lent
+
+pub record ConnectAsLent (x : Connection.After) (p : Pool) (l : Lent) (lent : List ℕ) : Type 0 where
+  pub pool : x .pool ≡ p
+  pub outlines : x .outlines ≡ l
+  pub counts : connectCounts (x .answer) lent ≡ lent

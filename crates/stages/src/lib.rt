@@ -3,8 +3,11 @@
 ghost use mathlib.Core.Path.{_≡_};
 ghost use Rattle.events.specs.Pool.{pool};
 ghost use Rattle.loading.specs.OnPool as Loading;
+ghost use Rattle.loading.specs.Answer as LoadAnswer;
 ghost use Rattle.sweep.specs.OnPool.{subdividePool};
+ghost use Rattle.sweep.specs.Answer as SweepAnswer;
 ghost use Rattle.connection.specs.Connection.{lent, connectEdges};
+ghost use Rattle.connection.specs.Answer as ConnectAnswer;
 ghost use Rattle.stages.specs.Told as Told;
 ghost use Rattle.stages.specs.Told.{operationOf, byChecks, countsBy};
 use class::Operation;
@@ -28,7 +31,7 @@ pub extern "C" fn bezorika_load(
     used: &mut u32,
     place: &mut u64,
 ) -> u64
-    ensures { λ r. ⌜ r ≡ Told.loadNumber (Loading.load (now (ends .entry)) (now (labels .entry)) (pool (now (points .entry)) (now (marks .entry))) .answer) ⌝ }
+    ensures { λ r. ⌜ r ≡ LoadAnswer.numberOf (Loading.load (now (ends .entry)) (now (labels .entry)) (pool (now (points .entry)) (now (marks .entry))) .answer) ⌝ }
     ensures { λ _. ⌜ pool (now (points .exit)) (now (marks .exit)) ≡ Loading.load (now (ends .entry)) (now (labels .entry)) (pool (now (points .entry)) (now (marks .entry))) .pool ⌝ }
     ensures { λ _. ⌜ now (used .exit) ≡ Told.loadUsed (Loading.load (now (ends .entry)) (now (labels .entry)) (pool (now (points .entry)) (now (marks .entry))) .answer) (now (used .entry)) ⌝ }
     ensures { λ _. ⌜ now (place .exit) ≡ Told.loadPlace (Loading.load (now (ends .entry)) (now (labels .entry)) (pool (now (points .entry)) (now (marks .entry))) .answer) (now (place .entry)) ⌝ }
@@ -80,7 +83,7 @@ fn tell_counts(number: u64, told: [u32; 4], counts: &mut [u32; 4])
 }
 
 fn tell_end(outcome: sweep::Outcome, place: &mut u64) -> u64
-    ensures { λ r. ⌜ r ≡ Told.sweepNumber outcome ⌝ }
+    ensures { λ r. ⌜ r ≡ SweepAnswer.numberOf outcome ⌝ }
     ensures { λ _. ⌜ now (place .exit) ≡ Told.sweepPlace outcome (now (place .entry)) ⌝ }
 {
     match outcome {
@@ -103,7 +106,7 @@ pub extern "C" fn bezorika_subdivide(
     counts: &mut [u32; 4],
     place: &mut u64,
 ) -> u64
-    ensures { λ r. ⌜ r ≡ Told.sweepNumber (subdividePool (operationOf operation) mode (pool (now (points .entry)) (now (marks .entry))) loaded (now (taken .entry)) .answer .outcome) ⌝ }
+    ensures { λ r. ⌜ r ≡ SweepAnswer.numberOf (subdividePool (operationOf operation) mode (pool (now (points .entry)) (now (marks .entry))) loaded (now (taken .entry)) .answer .outcome) ⌝ }
     ensures { λ _. ⌜ pool (now (points .exit)) (now (marks .exit)) ≡ subdividePool (operationOf operation) mode (pool (now (points .entry)) (now (marks .entry))) loaded (now (taken .entry)) .pool ⌝ }
     ensures { λ _. ⌜ now (taken .exit) ≡ subdividePool (operationOf operation) mode (pool (now (points .entry)) (now (marks .entry))) loaded (now (taken .entry)) .taken ⌝ }
     ensures { λ _. ⌜ now (counts .exit) ≡ Told.sweepCounts (subdividePool (operationOf operation) mode (pool (now (points .entry)) (now (marks .entry))) loaded (now (taken .entry)) .answer) (now (counts .entry)) ⌝ }
@@ -118,7 +121,7 @@ pub extern "C" fn bezorika_subdivide(
 }
 
 fn tell_connection(outcome: connection::Outcome, place: &mut u64) -> u64
-    ensures { λ r. ⌜ r ≡ Told.connectNumber outcome ⌝ }
+    ensures { λ r. ⌜ r ≡ ConnectAnswer.numberOf outcome ⌝ }
     ensures { λ _. ⌜ now (place .exit) ≡ Told.connectPlace outcome (now (place .entry)) ⌝ }
 {
     match outcome {
@@ -141,7 +144,7 @@ pub extern "C" fn bezorika_connect(
     counts: &mut [u32; 4],
     place: &mut u64,
 ) -> u64
-    ensures { λ r. ⌜ r ≡ Told.connectNumber (connectEdges (pool (now (points .entry)) (now (marks .entry))) (now (list .entry)) (lent (now (corners .entry)) (now (contours .entry)) (now (holes .entry))) .answer .outcome) ⌝ }
+    ensures { λ r. ⌜ r ≡ ConnectAnswer.numberOf (connectEdges (pool (now (points .entry)) (now (marks .entry))) (now (list .entry)) (lent (now (corners .entry)) (now (contours .entry)) (now (holes .entry))) .answer .outcome) ⌝ }
     ensures { λ _. ⌜ pool (now (points .entry)) (now (marks .exit)) ≡ connectEdges (pool (now (points .entry)) (now (marks .entry))) (now (list .entry)) (lent (now (corners .entry)) (now (contours .entry)) (now (holes .entry))) .pool ⌝ }
     ensures { λ _. ⌜ lent (now (corners .exit)) (now (contours .exit)) (now (holes .exit)) ≡ connectEdges (pool (now (points .entry)) (now (marks .entry))) (now (list .entry)) (lent (now (corners .entry)) (now (contours .entry)) (now (holes .entry))) .outlines ⌝ }
     ensures { λ _. ⌜ now (counts .exit) ≡ Told.connectCounts (connectEdges (pool (now (points .entry)) (now (marks .entry))) (now (list .entry)) (lent (now (corners .entry)) (now (contours .entry)) (now (holes .entry))) .answer) (now (counts .entry)) ⌝ }

@@ -79,7 +79,7 @@ sizes-by points marks taken n x = go (missized points marks || (not (eqb points 
     go false e = let z : _≡_ {A = ℕ} 0 1 = cc in absurd (omega arith)
 
 module _ (op : Operation) (mode : ℕ) (p : Pool) (n : ℕ) (lent : List ℕ) where
-  given-by : (x : Refusal) → accept p n lent ≡ Struck x → (x .number ≡ 1) ⊎ ((x .number ≡ 2) ⊎ (x .number ≡ 4))
+  pub given-by : (x : Refusal) → accept p n lent ≡ Struck x → (x .number ≡ 1) ⊎ ((x .number ≡ 2) ⊎ (x .number ≡ 4))
   unfolding accept
   given-by x e =
       ⊎-elim (λ h. inl (sizes-by _ _ _ _ x h))

@@ -5,4 +5,5 @@ pub mod Event
 pub mod Run
 pub mod Lined
 pub mod OnPool
+pub mod Answer
 pub mod Turn

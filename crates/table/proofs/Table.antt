@@ -4,6 +4,7 @@ use lib.Ieee.{add, sub, mul, div, lt, le, eq, ne, ofBits}
 use Rattle.numbers.specs.Binary64.{unsigned}
 use Rattle.numbers.specs.Points.{isAhead, unsignedPoint}
 use Rattle.numbers.specs.Exact.{size, negative}
+use Rattle.orientation.specs.Orientation as Orientation
 use Rattle.orientation.specs.Orientation.{signedArea, signOf}
 use Rattle.crossing.specs.Boxes.{boxFrom, sharedBox, clamp, constrainedTo, orLost}
 use Rattle.crossing.specs.Lines.{minus, crossingAt, sharedFrom, along, intersectionImpl}
@@ -14,7 +15,7 @@ use Rattle.division.proofs.Worked.{p10, p11}
 use Rattle.table.specs.Table.{Table}
 
 pub table : Table
-unfolding unsigned isAhead unsignedPoint endsInOrder comesFirst inOrder unsignedSegment orderedPair namedIn intersectionIn intersectionOfPair numberOf valuesOf intersectionOf inBox orLost constrainedTo clamp intersectionImpl along sharedFrom crossingAt minus sharedBox boxFrom add sub mul div lt le eq ne ofBits signedArea signOf size negative
+unfolding unsigned isAhead unsignedPoint endsInOrder comesFirst inOrder unsignedSegment orderedPair namedIn intersectionIn intersectionOfPair numberOf valuesOf intersectionOf inBox orLost constrainedTo clamp intersectionImpl along sharedFrom crossingAt minus sharedBox boxFrom add sub mul div lt le eq ne ofBits signedArea signOf Orientation.numberOf size negative
 table =
     record {
       plainly = record {

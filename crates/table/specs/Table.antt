@@ -8,7 +8,7 @@ use lib.Dec.{eqb}
 use lib.IntN.{pos, negsuc}
 use lib.Ieee.{Float, fin}
 use Rattle.numbers.specs.declared.Coordinate.{Coordinate}
-use Rattle.orientation.specs.declared.Sign.the-variants.{Negative}
+use Rattle.orientation.specs.Orientation as Orientation
 use Rattle.orientation.specs.Orientation.{signedArea}
 use Rattle.crossing.specs.declared.LineIntersection.{LineIntersection}
 use Rattle.crossing.specs.Crossing.{intersectionIn}
@@ -38,7 +38,7 @@ small nought = one
 abbrev pub at : Float → Float → Coordinate
 at a b = record { x = a; y = b }
 
--- ---- the answers, by their numbers: 0 None, 1 Point, 2 Overlap, 3 Lost
+-- ---- the answers, by their numbers: of a crossing 0 None, 1 Point, 2 Overlap, 3 Lost; of an orientation -1 negative
 
 pub record Is (found : LineIntersection) (number : ℕ) (values : List Float) : Type 0 where
   pub number-is : numberOf found ≡ number
@@ -73,7 +73,7 @@ pub record Table : Type 0 where
   pub plainly : Crossings plain
   pub in-order : Crossings ordered
   -- orientation of (1,1), (2,2), (2^-60,0): negative
-  pub P9 : signedArea (at one one) (at two two) (at (small 60) zero) ≡ Negative
+  pub P9 : Orientation.numberOf (signedArea (at one one) (at two two) (at (small 60) zero)) ≡ negsuc 0
   -- (0,1)-(4,0) cut at (0,0.5): the cut becomes (2^-1074,0.5)
   pub P10 : Division.P10
   -- (0,0)-(2,1) cut at (2,1.5): flags change places

@@ -1,0 +1,2 @@
+-- What a refused call leaves.
+pub mod AsLent
