@@ -1,4 +1,5 @@
 -- Connection as a call on lent arrays.
 pub mod Connection
 pub mod Answer
+pub mod Shown
 pub mod Steps

@@ -2,11 +2,11 @@
 use mathlib.Core.Path.{_≡_, refl, sym, ap, _∙_}
 use mathlib.Core.Option.{Option, none, some}
 use mathlib.Core.List.{List, [], _∷_, _++_, map}
-use Prim.Native.Nat.{ℕ, suc, _+_, _≤_}
+use Prim.Native.Nat.{ℕ, _+_, _≤_}
 use native.Mathlib.Numerals.{add-one}
 use native.Mathlib.Omega.{arith}
 use lib.Ieee.{Float}
-use lib.ListN.{length, take, drop, length-append, length-map}
+use lib.ListN.{length, take, drop}
 use lib.Seq.{take-append-seam}
 use Rattle.numbers.specs.declared.Coordinate.{Coordinate}
 use Rattle.contours.specs.Outline.{Outline, cornerCount, holeCount}
@@ -15,6 +15,7 @@ use Rattle.starts.specs.Starts.{codeOf}
 use Rattle.tracing.specs.Tracing.{cornersIn, holesIn, rowIn, rowsIn}
 use Rattle.lists.proofs.Fronts.{sets-front}
 use Rattle.connection.specs.Connection.{Lent, written}
+use Rattle.connection.proofs.Shown.{corners-count, holes-count, rows-count}
 use Rattle.printing.specs.Printing.{printed}
 use Rattle.printing.specs.Arrays.{printedArrays, numberOf, rowsFrom, numbersOf, allCorners, allHoles}
 use Rattle.printing.proofs.Held.{held}
@@ -45,23 +46,6 @@ rows-same : (c h : ℕ) (os : List (Outline Coordinate)) → rowsIn c h os ≡ r
 unfolding rowsIn rowIn rowsFrom
 rows-same c h [] = refl
 rows-same c h (o ∷ os) = rw (code-same (o .parent), rows-same (c + length (o .corners)) (h + length (o .holes)) os)
-
--- ---- how long they are
-
-corners-count : (os : List (Outline Coordinate)) → length (cornersIn os) ≡ cornerCount os
-unfolding cornersIn cornerCount
-corners-count [] = refl
-corners-count (o ∷ os) = omega (arith, length-append (map pointCode (o .corners)) (cornersIn os), length-map (o .corners) pointCode, corners-count os)
-
-holes-count : (os : List (Outline Coordinate)) → length (holesIn os) ≡ holeCount os
-unfolding holesIn holeCount
-holes-count [] = refl
-holes-count (o ∷ os) = omega (arith, length-append (o .holes) (holesIn os), holes-count os)
-
-rows-count : (c h : ℕ) (os : List (Outline Coordinate)) → length (rowsIn c h os) ≡ length os
-unfolding rowsIn
-rows-count c h [] = refl
-rows-count c h (o ∷ os) = ap suc (rows-count (c + length (o .corners)) (h + length (o .holes)) os)
 
 -- ---- the text
 

@@ -2,7 +2,7 @@
 use mathlib.Core.Path.{_≡_, refl, sym, ap, _∙_}
 use mathlib.Core.Option.{Option, none, some}
 use mathlib.Core.List.{List, [], _∷_, _++_, map, append-assoc}
-use Prim.Native.Nat.{ℕ, _+_, _-_, _≤_}
+use Prim.Native.Nat.{ℕ, _+_, _≤_}
 use native.Mathlib.Omega.{arith}
 use borrow.Author.Tests.{le-ltb}
 use lib.Ieee.{Float}
@@ -11,11 +11,12 @@ use lib.Seq.{take-append-seam, drop-at}
 use Rattle.numbers.specs.declared.Coordinate.{Coordinate}
 use Rattle.contours.specs.Outline.{Outline}
 use Rattle.sheet.specs.declared.edges.Corner.{Corner}
+use Rattle.view.proofs.Parts.{laid-at}
 use Rattle.printing.specs.Printing.{Drawn, bitsOf, drawn, drawing, printed}
 use Rattle.printing.specs.Arrays.{partLength, part, cornerOf, parentOf, drawnRow, printedArrays, numberOf, rowsFrom, numbersOf, allCorners, allHoles}
 
--- a list that stands after others is the part from there on
-part-held : {A : Type 0} (a l c : List A) (first : ℕ) → length a ≡ first → part (a ++ (l ++ c)) first (length l) ≡ l
+-- holes that stand after others are the part from there on
+part-held : (a l c : List ℕ) (first : ℕ) → length a ≡ first → part (a ++ (l ++ c)) first (length l) ≡ l
 unfolding part partLength
 part-held a l c first h =
     let long : length (a ++ (l ++ c)) ≡ length a + (length l + length c) = length-append a (l ++ c) ∙ ap (λ (n : ℕ). length a + n) (length-append l c) in
@@ -34,8 +35,7 @@ corners-held (p ∷ l) = ap (λ (m : List Corner). bitsOf p ∷ m) (corners-held
 row-held : (o : Outline Coordinate) (a c : List (List Float)) (b d : List ℕ) (i j : ℕ) → length a ≡ i → length b ≡ j → drawnRow (a ++ (map numbersOf (o .corners) ++ c)) (b ++ (o .holes ++ d)) (i ∷ (i + length (o .corners)) ∷ numberOf (o .parent) ∷ o .depth ∷ j ∷ length (o .holes) ∷ []) ≡ drawn o
 unfolding drawnRow drawn
 row-held o a c b d i j h k =
-    let n : i + length (o .corners) - i ≡ length (map numbersOf (o .corners)) = omega (arith, length-map (o .corners) numbersOf) in
-    rw (parent-held (o .parent), n, part-held a (map numbersOf (o .corners)) c i h, part-held b (o .holes) d j k, corners-held (o .corners))
+    rw (parent-held (o .parent), laid-at a (map numbersOf (o .corners)) c i (length (o .corners)) h (length-map (o .corners) numbersOf), part-held b (o .holes) d j k, corners-held (o .corners))
 
 rows-held : (os : List (Outline Coordinate)) (a c : List (List Float)) (b d : List ℕ) (i j : ℕ) → length a ≡ i → length b ≡ j → map (drawnRow (a ++ (allCorners os ++ c)) (b ++ (allHoles os ++ d))) (rowsFrom i j os) ≡ map drawn os
 unfolding rowsFrom allCorners allHoles

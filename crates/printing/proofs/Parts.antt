@@ -7,11 +7,15 @@ use native.Mathlib.Decide.{decLt}
 use native.Mathlib.Omega.{arith}
 use borrow.Author.Tests.{lt-ltb, le-ltb}
 use lib.Ieee.{Float}
-use lib.ListN.{length, getD, take, drop, length-take, length-drop, length-map}
+use lib.ListN.{length, getD, take, drop, length-take, length-drop, length-map, drop-of-length-le}
 use lib.Seq.{drop-cons, take-all}
 use Rattle.text.specs.Quoted.{quoted}
 use Rattle.sheet.specs.Sheet.{countLine}
-use Rattle.printing.specs.Printing.{Drawn, headLine, holeLines, cornerLine, cornerLines, contourLines, contoursLines, drawing}
+use Rattle.numbers.specs.declared.Coordinate.{Coordinate}
+use Rattle.view.specs.declared.Corner.the-variants.{At, Nothing}
+use Rattle.view.specs.View.{partOf, pointAt, cornerAt}
+use Rattle.view.proofs.Parts.{found-within, none-beyond}
+use Rattle.printing.specs.Printing.{Drawn, bitsOf, headLine, holeLines, cornerLine, cornerLines, contourLines, contoursLines, drawing}
 use Rattle.printing.specs.Arrays.{partLength, part, cornerOf, parentOf, drawnRow, printedArrays}
 use Rattle.printing.specs.Put.{Put}
 use Rattle.printing.proofs.Goings.{kept, then}
@@ -40,20 +44,20 @@ module _ (holes : List ℕ) (first n i : ℕ) where
   unfolding holeLines
   hole-end h = rw (part-end 0 holes first n i h)
 
-module _ (corners : List (List Float)) (first n i : ℕ) where
-  pub corner-on : i < n → n ≤ length corners - first → cornerLines (map cornerOf (take (n - i) (drop (first + i) corners))) ≡ cornerLine (cornerOf (getD corners (first + i) [])) ++ cornerLines (map cornerOf (take (n - (i + 1)) (drop (first + (i + 1)) corners)))
-  unfolding cornerLines
-  corner-on h k = rw (part-on [] corners first n i h k)
+module _ (corners : List (List Float)) (i : ℕ) where
+  pub corner-on : (p : Coordinate) → cornerAt corners i ≡ At p → cornerLines (map cornerOf (drop i corners)) ≡ cornerLine (bitsOf p) ++ cornerLines (map cornerOf (drop (i + 1) corners))
+  unfolding cornerLines cornerOf pointAt bitsOf
+  corner-on p e =
+      let h = found-within corners i p e in
+      let q : i + 1 ≡ suc i = omega arith in
+      rw (q, drop-cons corners i [] (h .0), ← h .1)
 
-  pub corner-end : n ≤ i → cornerLines (map cornerOf (take (n - i) (drop (first + i) corners))) ≡ []
+  pub corner-end : cornerAt corners i ≡ Nothing → cornerLines (map cornerOf (drop i corners)) ≡ []
   unfolding cornerLines
-  corner-end h = rw (part-end [] corners first n i h)
+  corner-end e = rw (drop-of-length-le corners (none-beyond corners i e))
 
 pub hole-begun : (holes : List ℕ) (first n : ℕ) → holeLines (take n (drop first holes)) ≡ holeLines (take (n - 0) (drop (first + 0) holes))
 hole-begun holes first n = ap holeLines (part-begun holes first n)
-
-pub corner-begun : (corners : List (List Float)) (first n : ℕ) → cornerLines (map cornerOf (take n (drop first corners))) ≡ cornerLines (map cornerOf (take (n - 0) (drop (first + 0) corners)))
-corner-begun corners first n = ap (λ l. cornerLines (map cornerOf l)) (part-begun corners first n)
 
 -- ---- how long a part is
 
@@ -73,7 +77,7 @@ part-within length first count n e = go (decLt length (first + count))
     go (yes l) = omega (arith, part-out length first count l)
     go (no l) = omega (arith, part-in length first count (omega arith))
 
-pub part-count : {A : Type 0} (l : List A) (first count : ℕ) → length (part l first count) ≡ partLength (length l) first count
+pub part-count : (l : List ℕ) (first count : ℕ) → length (part l first count) ≡ partLength (length l) first count
 unfolding part
 part-count l first count =
     length-take (partLength (length l) first count) (drop first l)
@@ -81,18 +85,17 @@ part-count l first count =
 
 -- ---- a contour's pieces
 
-module _ {out₀ : List ℕ} {at : ℕ} (corners : List (List Float)) (holes row : List ℕ) (room : length out₀ ≤ 18446744073709551615) (n m k : ℕ) (hn : n ≡ partLength (length holes) (getD row 4 0) (getD row 5 0)) (hm : m ≡ getD row 1 0 - getD row 0 0) (hk : k ≡ partLength (length corners) (getD row 0 0) m) where
-  pub contour-put : {out₁ : List ℕ} {p₁ : ℕ} {out₂ : List ℕ} {p₂ : ℕ} {out₃ : List ℕ} {p₃ : ℕ} {out₄ : List ℕ} {p₄ : ℕ} {out₅ : List ℕ} {p₅ : ℕ} → Put out₀ at (headLine (parentOf (getD row 2 0)) (getD row 3 0)) out₁ p₁ → Put out₁ p₁ (countLine (quoted "holes ") n) out₂ p₂ → Put out₂ p₂ (holeLines (take n (drop (getD row 4 0) holes))) out₃ p₃ → Put out₃ p₃ (countLine (quoted "points ") k) out₄ p₄ → Put out₄ p₄ (cornerLines (map cornerOf (take k (drop (getD row 0 0) corners)))) out₅ p₅ → Put out₀ at (contourLines (drawnRow corners holes row)) out₅ p₅
+module _ {out₀ : List ℕ} {at : ℕ} (corners : List (List Float)) (holes row : List ℕ) (room : length out₀ ≤ 18446744073709551615) (n k : ℕ) (shown : List (List Float)) (hn : n ≡ partLength (length holes) (getD row 4 0) (getD row 5 0)) (hs : shown ≡ partOf corners (getD row 0 0) (getD row 1 0)) (hk : k ≡ length shown) where
+  pub contour-put : {out₁ : List ℕ} {p₁ : ℕ} {out₂ : List ℕ} {p₂ : ℕ} {out₃ : List ℕ} {p₃ : ℕ} {out₄ : List ℕ} {p₄ : ℕ} {out₅ : List ℕ} {p₅ : ℕ} → Put out₀ at (headLine (parentOf (getD row 2 0)) (getD row 3 0)) out₁ p₁ → Put out₁ p₁ (countLine (quoted "holes ") n) out₂ p₂ → Put out₂ p₂ (holeLines (take n (drop (getD row 4 0) holes))) out₃ p₃ → Put out₃ p₃ (countLine (quoted "points ") k) out₄ p₄ → Put out₄ p₄ (cornerLines (map cornerOf shown)) out₅ p₅ → Put out₀ at (contourLines (drawnRow corners holes row)) out₅ p₅
   unfolding contourLines drawnRow part
   contour-put {out₁} {p₁} {out₂} {p₂} {out₃} {p₃} {out₄} {p₄} {out₅} {p₅} a b c d e =
-      let counted : k ≡ partLength (length corners) (getD row 0 0) (getD row 1 0 - getD row 0 0) = hk ∙ ap (partLength (length corners) (getD row 0 0)) hm in
       let many : length (part holes (getD row 4 0) (getD row 5 0)) ≡ n = part-count holes (getD row 4 0) (getD row 5 0) ∙ sym hn in
-      let long : length (map cornerOf (part corners (getD row 0 0) (getD row 1 0 - getD row 0 0))) ≡ k = length-map (part corners (getD row 0 0) (getD row 1 0 - getD row 0 0)) cornerOf ∙ part-count corners (getD row 0 0) (getD row 1 0 - getD row 0 0) ∙ sym counted in
+      let long : length (map cornerOf shown) ≡ k = length-map shown cornerOf ∙ sym hk in
       let second = kept a room in
       let third = kept b second in
       let fourth = kept c third in
       let all = then room a (then second b (then third c (then fourth d e))) in
-      rw (many, long, ← hn, ← counted) all
+      rw (many, ← hs, long, ← hn) all
 
 -- ---- all contours
 

@@ -3,20 +3,21 @@
 use mathlib.Core.Bool.{cond}
 use mathlib.Core.Option.{Option, none, some}
 use mathlib.Core.List.{List, [], _∷_, _++_, map}
-use Prim.Native.Nat.{ℕ, zero, suc, _+_, _-_}
+use Prim.Native.Nat.{ℕ, zero, suc, _+_}
 use lib.Dec.{ltb}
 use lib.ListN.{length, getD, take, drop}
 use lib.Ieee.{Float, nan, binary64, toBits}
 use Rattle.numbers.specs.declared.Coordinate.{Coordinate}
 use Rattle.contours.specs.Outline.{Outline}
+use Rattle.view.specs.View.{partOf}
 use Rattle.sheet.specs.declared.edges.Corner.{Corner}
 use Rattle.printing.specs.Printing.{Drawn, drawing}
 
--- how many of the count elements from a place on are within an array
+-- how many of the count holes from a place on are within their array
 unfoldable pub partLength : (length first count : ℕ) → ℕ
 partLength length first count = cond (ltb length (first + count)) 0 count
 
-unfoldable pub part : {A : Type 0} → List A → ℕ → ℕ → List A
+unfoldable pub part : List ℕ → ℕ → ℕ → List ℕ
 part l first count = take (partLength (length l) first count) (drop first l)
 
 unfoldable pub cornerOf : List Float → Corner
@@ -32,7 +33,7 @@ drawnRow corners holes row =
       parent = parentOf (getD row 2 0);
       depth = getD row 3 0;
       holes = part holes (getD row 4 0) (getD row 5 0);
-      corners = map cornerOf (part corners (getD row 0 0) (getD row 1 0 - getD row 0 0));
+      corners = map cornerOf (partOf corners (getD row 0 0) (getD row 1 0));
     }
 
 -- the text of the first count contours

@@ -11,6 +11,10 @@ use crate::puts::bits;
 use crate::puts::line;
 use crate::puts::number;
 use crate::puts::text;
+use view::Corner;
+use view::corner_at;
+use view::count_of;
+use view::part_of;
 
 // The parent's number, given as that number + 1, or `-` for 0.
 fn parent_word(out: &mut [u8], at: usize, parent: u32) -> usize
@@ -54,22 +58,24 @@ fn hole_lines(out: &mut [u8], at: usize, holes: &[u32], first: u32, n: u32) -> u
     place
 }
 
-// The corners from `first` on, one a line.
-fn corner_lines(out: &mut [u8], at: usize, corners: &[[f64; 2]], first: u32, n: u32) -> usize
-    requires { ⌜ n ≤ length (now corners) - first ⌝ }
-    ensures { λ r. ⌜ Put (now (out .entry)) at (cornerLines (map cornerOf (take n (drop first (now (corners .entry)))))) (now (out .exit)) r ⌝ }
+// The corners of a contour, one a line.
+fn corner_lines(out: &mut [u8], at: usize, corners: &[[f64; 2]]) -> usize
+    ensures { λ r. ⌜ Put (now (out .entry)) at (cornerLines (map cornerOf (now (corners .entry)))) (now (out .exit)) r ⌝ }
 {
     let mut place = at;
     let mut i = 0;
-    while i < n {
-        let p = corners[first as usize + i as usize];
-        place = corner_line(out, place, p[0], p[1]);
+    loop {
+        match corner_at(corners, i) {
+            Corner::Nothing => return place,
+            Corner::At(p) => {
+                place = corner_line(out, place, p.x, p.y);
+            }
+        }
         i += 1;
     }
-    place
 }
 
-// How many of the `count` elements from `first` on are within an array.
+// How many of the `count` holes from `first` on are within their array.
 fn part_length(length: usize, first: u32, count: u32) -> u32
     ensures { λ r. ⌜ r ≡ partLength length first count ⌝ }
 {
@@ -77,16 +83,6 @@ fn part_length(length: usize, first: u32, count: u32) -> u32
         return 0;
     }
     count
-}
-
-// How far `end` is after `first`.
-fn between(first: u32, end: u32) -> u32
-    ensures { λ r. ⌜ r ≡ end - first ⌝ }
-{
-    if end < first {
-        return 0;
-    }
-    end - first
 }
 
 pub fn contour_lines(
@@ -99,10 +95,10 @@ pub fn contour_lines(
     ensures { λ r. ⌜ Put (now (out .entry)) at (contourLines (drawnRow (now (corners .entry)) (now (holes .entry)) row)) (now (out .exit)) r ⌝ }
 {
     let n = part_length(holes.len(), row[4], row[5]);
-    let k = part_length(corners.len(), row[0], between(row[0], row[1]));
+    let shown = part_of(corners, row[0] as usize, row[1] as usize);
     let counted = head_line(out, at, row[2], row[3]);
     let listed = line(out, counted, b"holes ", n as u64);
     let points = hole_lines(out, listed, holes, row[4], n);
-    let first = line(out, points, b"points ", k as u64);
-    corner_lines(out, first, corners, row[0], k)
+    let first = line(out, points, b"points ", count_of(shown) as u64);
+    corner_lines(out, first, shown)
 }

@@ -9,17 +9,19 @@ use Rattle.printing.proofs.lines.contour_lines.Statement.{statement}
 use Rattle.printing.proofs.lines.contour_lines.Tie as tie
 
 hole-lines-requires : tie.Need-hole-lines-requires
-hole-lines-requires c κs = part-within _ _ _ _ (c .before .before .before .before .before .before .before .before .before .before .before .before .part-length .ensures)
-
-corner-lines-requires : tie.Need-corner-lines-requires
-corner-lines-requires c κs = part-within _ _ _ _ (c .before .before .before .before .before .before .before .before .before .before .before .before .before .before .before .before .before .before .before .part-length2 .ensures)
+hole-lines-requires c κs = part-within _ _ _ _ (c .before .before .before .before .before .before .before .before .before .before .before .part-length .ensures)
 
 returns : tie.Need-returns
 unfolding quoted
 returns c =
-    let a = c .before .before .before .before .before .before .before .before .before .before .before .before .before .before .before .before .before .before .before .before .before .before .before .before .before .before .before .args in
-    let room : length (a .out .now) ≤ 18446744073709551615 = omega (arith, c .before .before .before .before .before .before .before .before .before .before .before .before .before .before .before .before .before .before .before .before .before .before .before .before .before .before .before .good .0 .1) in
-    contour-put (a .corners .now) (a .holes .now) (a .t5) room _ _ _ (c .before .before .before .before .before .before .before .before .before .before .before .before .before .before .before .before .before .before .before .before .before .before .before .before .part-length .ensures) (c .before .before .before .before .before .before .before .before .before .before .before .before .before .before .before .before .before .before .before .before .before .before .before .between .ensures) (c .before .before .before .before .before .before .before .before .before .before .before .before .before .before .before .before .before .before .before .before .before .before .part-length2 .ensures) (c .before .before .before .before .before .before .before .before .before .before .before .before .before .before .before .before .before .before .before .before .head-line .ensures) (c .before .before .before .before .before .before .before .before .before .before .before .before .before .before .before .line .ensures) (c .before .before .before .before .before .before .before .before .before .before .before .hole-lines .ensures) (c .before .before .before .before .before .before .line2 .ensures) (c .before .before .corner-lines .ensures)
+    let entry = c .before .before .before .before .before .before .before .before .before .before .before .before .before .before .before .before .before .before .before .before .before .before .before .before .before .before .before in
+    let a = entry .args in
+    let room : length (a .out .now) ≤ 18446744073709551615 = omega (arith, entry .good .0 .1) in
+    let shown = c .before .before .before .before .before .before .before .before .before .before .before .before .before .before .before .before .before .before .before .before .before .before .before .part-of in
+    contour-put (a .corners .now) (a .holes .now) (a .t5) room _ _ (shown .result .now)
+    (c .before .before .before .before .before .before .before .before .before .before .before .before .before .before .before .before .before .before .before .before .before .before .before .before .part-length .ensures) (shown .ensures) (c .before .before .before .before .before .before .before .count-of .ensures)
+    (c .before .before .before .before .before .before .before .before .before .before .before .before .before .before .before .before .before .before .before .before .before .head-line .ensures) (c .before .before .before .before .before .before .before .before .before .before .before .before .before .before .before .before .line .ensures) (c .before .before .before .before .before .before .before .before .before .before .before .before .hole-lines .ensures)
+    (c .before .before .before .before .before .before .line2 .ensures) (c .before .before .corner-lines .ensures)
 
 pub contour-lines-spec : {M : Type 1} → statement M
 contour-lines-spec =
@@ -31,7 +33,7 @@ contour-lines-spec =
     (λ c. search needs)
     (λ c. search needs)
     (λ c. search needs)
-    (λ c κs. tt)
+    (λ c. search needs)
     (λ c κs. tt)
     (λ c. search needs)
     (λ c. search needs)
@@ -42,9 +44,8 @@ contour-lines-spec =
     (λ c. search needs)
     hole-lines-requires
     (λ c. search needs)
-    (λ c. search needs)
     (λ c κs. tt)
-    (λ c. search needs)
-    corner-lines-requires
+    (λ c κs. tt)
+    (λ c κs. tt)
     (λ c. search needs)
     returns)
