@@ -1,56 +1,82 @@
--- A coinciding pair: a record, and one of the other layer that is handed on from it. The pair's layers change together exactly where the two in-out
--- flags are equal, and the transition of the pair is not always the table's.
+-- A coinciding pair, one edge of each layer: the layers change together across it exactly where the two in-out flags are equal. The flags say so in both ways
+-- in which the sweep has computed them when the two meet. The transition of the pair is not always the table's.
 use mathlib.Core.Path.{_≡_, refl, sym, ap, _∙_}
-use mathlib.Core.Bool.{Bool, true, false, not, Bool·not-not}
+use mathlib.Core.Bool.{Bool, true, false, not, Bool·beq, Bool·not-not}
 use Rattle.events.specs.declared.EdgeType.{EdgeType}
 use Rattle.events.specs.declared.EdgeType.the-variants.{Normal, SameTransition, DifferentTransition}
 use Rattle.events.specs.declared.ResultTransition.the-variants.{None as NoTransition, InOut, OutIn}
 use Rattle.events.specs.declared.Link.the-variants.{None as NoLink}
 use Rattle.events.specs.Event.{Event}
+use Rattle.class.specs.declared.Operation.{Operation}
 use Rattle.class.specs.declared.Operation.the-variants.{Intersection, Difference}
 use Rattle.class.specs.Class.{Neighbour, None, Edge, written, inOutAbove, otherInOutAbove, setFromLower, sameInResult, differentInResult, inResultAs, holdsAbove, direction, transitionIn, fields}
-use Rattle.class.specs.Truth.{holds, Place, place, Sides, turn, turnAcross, own, other, Describes, Together, Oppositely}
+use Rattle.class.specs.Truth.{holds, Place, place, Sides, turn, turnAcross, own, other, Describes, acrossBoth, PairAbove, Together, Oppositely}
+use Rattle.class.proofs.Handing.{own-handed, own-passed, own-outside}
 
--- ---- the sides of the pair
+-- ---- the place below the pair, told by the two in-out flags
 
--- what is its own for one edge is the other's for the other
-swapped : (a : Bool) (p : Place) → (other a p ≡ own (not a) p) × (own a p ≡ other (not a) p)
-swapped true p = (refl, refl)
-swapped false p = (refl, refl)
+module _ (p : Place) where
+  swapped : (a : Bool) → own (not a) p ≡ other a p
+  swapped true = refl
+  swapped false = refl
 
--- the layers below and above the pair, told from its lower edge
-both-crossed : {P : Type 0} (e f : Event P) (s t : Sides) → f .subject ≡ not (e .subject) → Describes e s → Describes f t → t .below ≡ s .above → (other (e .subject) (s .below) ≡ f .inOut) × (own (e .subject) (t .above) ≡ not (e .inOut)) × (other (e .subject) (t .above) ≡ not (f .inOut))
-both-crossed e f s t apart d g meets =
-    let theirs : (p : Place) → other (e .subject) p ≡ own (f .subject) p = λ p. rw apart (swapped (e .subject) p .0) in
-    let mine : (p : Place) → own (e .subject) p ≡ other (f .subject) p = λ p. rw apart (swapped (e .subject) p .1) in (
-      d .other-below ∙ sym (d .other-above) ∙ theirs (s .above) ∙ ap (own (f .subject)) (sym meets) ∙ g .own-below,
-      mine (t .above) ∙ g .other-above ∙ sym (g .other-below) ∙ ap (other (f .subject)) meets ∙ sym (mine (s .above)) ∙ d .own-above,
-      theirs (t .above) ∙ g .own-above,
-    )
+  alike : (a i j : Bool) → own a p ≡ i → other a p ≡ j → j ≡ i → p .clip ≡ p .subject
+  alike true i j x y e = y ∙ e ∙ sym x
+  alike false i j x y e = x ∙ sym e ∙ sym y
 
-together-from : (a i : Bool) (s : Sides) → own a (s .below) ≡ i → other a (s .below) ≡ i → own a (s .above) ≡ not i → other a (s .above) ≡ not i → Together s
-together-from true i s p q r t = record { alike = q ∙ sym p; subject-changes = r ∙ ap not (sym p); clip-changes = t ∙ ap not (sym q) }
-together-from false i s p q r t = record { alike = p ∙ sym q; subject-changes = t ∙ ap not (sym q); clip-changes = r ∙ ap not (sym p) }
+  alike-back : (a i j : Bool) → own a p ≡ i → other a p ≡ j → p .clip ≡ p .subject → j ≡ i
+  alike-back true i j x y e = sym y ∙ e ∙ x
+  alike-back false i j x y e = sym y ∙ sym e ∙ x
 
-oppositely-from : (a i : Bool) (s : Sides) → own a (s .below) ≡ i → other a (s .below) ≡ not i → own a (s .above) ≡ not i → other a (s .above) ≡ not (not i) → Oppositely s
-oppositely-from true i s p q r t = record { unlike = q ∙ ap not (sym p); subject-changes = r ∙ ap not (sym p); clip-changes = t ∙ ap not (sym q) }
-oppositely-from false i s p q r t = record { unlike = p ∙ sym (Bool·not-not i) ∙ ap not (sym q); subject-changes = t ∙ ap not (sym q); clip-changes = r ∙ ap not (sym p) }
+  unlike : (a i j : Bool) → own a p ≡ i → other a p ≡ j → j ≡ not i → p .clip ≡ not (p .subject)
+  unlike true i j x y e = y ∙ e ∙ ap not (sym x)
+  unlike false i j x y e = x ∙ sym (Bool·not-not i) ∙ ap not (sym e ∙ sym y)
 
--- from below the lower edge of a pair to above the upper one
-abbrev across : Sides → Sides → Sides
-across s t = record { below = s .below; above = t .above }
+  unlike-back : (a i j : Bool) → own a p ≡ i → other a p ≡ j → p .clip ≡ not (p .subject) → j ≡ not i
+  unlike-back true i j x y e = sym y ∙ e ∙ ap not x
+  unlike-back false i j x y e = sym y ∙ sym (Bool·not-not (p .subject)) ∙ ap not (sym e ∙ x)
 
--- Equal in-out flags: the source calls the pair SameTransition, and its layers change together.
-pub together : {P : Type 0} (e f : Event P) (s t : Sides) → f .subject ≡ not (e .subject) → Describes e s → Describes f t → t .below ≡ s .above → f .inOut ≡ e .inOut → Together (across s t)
-together e f s t apart d g meets same =
-    let (below, mine, theirs) = both-crossed e f s t apart d g meets in
-    together-from (e .subject) (e .inOut) (across s t) (d .own-below) (below ∙ same) mine (theirs ∙ ap not same)
+-- ---- the layers across the pair
 
--- Unequal ones: DifferentTransition, and they change oppositely.
-pub oppositely : {P : Type 0} (e f : Event P) (s t : Sides) → f .subject ≡ not (e .subject) → Describes e s → Describes f t → t .below ≡ s .above → f .inOut ≡ not (e .inOut) → Oppositely (across s t)
-oppositely e f s t apart d g meets different =
-    let (below, mine, theirs) = both-crossed e f s t apart d g meets in
-    oppositely-from (e .subject) (e .inOut) (across s t) (d .own-below) (below ∙ different) mine (theirs ∙ ap not different)
+module _ {P : Type 0} (p : Place) (e f : Event P) (h : PairAbove p e f) where
+  theirs : other (e .subject) p ≡ f .inOut
+  theirs = sym (swapped p (e .subject)) ∙ ap (λ a. own a p) (sym (h .two-layers)) ∙ h .second
+
+  -- Equal in-out flags: both layers are entered, or both left ..
+  pub together : f .inOut ≡ e .inOut → Together (acrossBoth p)
+  together same = record { alike = alike p (e .subject) _ _ (h .first) theirs same; subject-changes = refl; clip-changes = refl }
+
+  pub together-back : Together (acrossBoth p) → f .inOut ≡ e .inOut
+  together-back t = alike-back p (e .subject) _ _ (h .first) theirs (t .alike)
+
+  -- .. and unequal ones: one is entered and the other left.
+  pub oppositely : f .inOut ≡ not (e .inOut) → Oppositely (acrossBoth p)
+  oppositely different = record { unlike = unlike p (e .subject) _ _ (h .first) theirs different; subject-changes = refl; clip-changes = refl }
+
+  pub oppositely-back : Oppositely (acrossBoth p) → f .inOut ≡ not (e .inOut)
+  oppositely-back t = unlike-back p (e .subject) _ _ (h .first) theirs (t .unlike)
+
+-- ---- the two ways in which the flags were computed, vertical neighbours among them, since in-out does not look at slopes
+
+-- The upper edge above the lower: as the sweep asks of a new edge and the one below it, and of both once they have been computed anew.
+pub pair-stacked : {P : Type 0} (op : Operation) (f : Event P) (n : Neighbour P) (s : Sides) → f .subject ≡ not (n .event .subject) → Describes (n .event) s → PairAbove (s .below) (n .event) (fields op f (Edge n))
+unfolding fields setFromLower written
+pair-stacked op f n s apart d =
+    let e = n .event in
+    record { two-layers = apart; first = d .own-below; second = rw apart (own-passed (e .subject) (e .inOut) (e .otherInOut) (s .below) (d .other-below)) }
+
+-- Both above the same edge: as the sweep asks of a new edge and the one above it, which was computed before the new one came between.
+pub pair-level : {P : Type 0} (op : Operation) (e f : Event P) (n : Neighbour P) (s : Sides) → f .subject ≡ not (e .subject) → Describes (n .event) s → PairAbove (s .above) (fields op e (Edge n)) (fields op f (Edge n))
+unfolding fields setFromLower written
+pair-level op e f n s apart d =
+    let prev = n .event in
+    let handed : (a : Bool) → own a (s .above) ≡ inOutAbove (Bool·beq a (prev .subject)) (prev .inOut) (prev .otherInOut) = λ a. own-handed a (prev .subject) (prev .inOut) (prev .otherInOut) (s .above) (d .own-above) (d .other-above) in
+    record { two-layers = apart; first = handed (e .subject); second = handed (f .subject) }
+
+-- .. or above none.
+pub pair-lowest : {P : Type 0} (op : Operation) (e f : Event P) → f .subject ≡ not (e .subject) → PairAbove (place false false) (fields op e None) (fields op f None)
+unfolding fields setFromLower written
+pair-lowest op e f apart = record { two-layers = apart; first = own-outside (e .subject); second = own-outside (f .subject) }
 
 -- ---- where the transition differs from the table
 

@@ -4,13 +4,13 @@ use mathlib.Core.Bool.{Bool, true, false, not, Bool·beq, Bool·not-not}
 use Rattle.events.specs.declared.EdgeType.the-variants.{Normal}
 use Rattle.events.specs.Event.{Event}
 use Rattle.class.specs.declared.Operation.{Operation}
-use Rattle.class.specs.Class.{Neighbour, Lower, None, Edge, written, inOutAbove, otherInOutAbove, setFromLower, fields}
+use Rattle.class.specs.Class.{Neighbour, None, Edge, written, inOutAbove, otherInOutAbove, setFromLower, fields}
 use Rattle.class.specs.Truth.{Place, place, Sides, turnAcross, own, other, Crossed, Describes}
 use Rattle.class.proofs.Truth.{written-transition}
 
 -- ---- the flags, by the two layers
 
-own-handed : (a b inOut otherInOut : Bool) (p : Place) → own b p ≡ not inOut → other b p ≡ not otherInOut → own a p ≡ inOutAbove (Bool·beq a b) inOut otherInOut
+pub own-handed : (a b inOut otherInOut : Bool) (p : Place) → own b p ≡ not inOut → other b p ≡ not otherInOut → own a p ≡ inOutAbove (Bool·beq a b) inOut otherInOut
 unfolding inOutAbove
 own-handed true true i o p h k = h
 own-handed true false i o p h k = k
@@ -29,7 +29,7 @@ unfolding otherInOutAbove
 other-in-layer true v i o p k = k
 other-in-layer false v i o p k = k
 
-own-passed : (b inOut otherInOut : Bool) (p : Place) → other b p ≡ not otherInOut → own (not b) p ≡ inOutAbove (Bool·beq (not b) b) inOut otherInOut
+pub own-passed : (b inOut otherInOut : Bool) (p : Place) → other b p ≡ not otherInOut → own (not b) p ≡ inOutAbove (Bool·beq (not b) b) inOut otherInOut
 unfolding inOutAbove
 own-passed true i o p k = k
 own-passed false i o p k = k
@@ -39,7 +39,7 @@ unfolding otherInOutAbove
 other-passed true i o p h = h ∙ sym (Bool·not-not i)
 other-passed false i o p h = h ∙ sym (Bool·not-not i)
 
-own-outside : (a : Bool) → own a (place false false) ≡ false
+pub own-outside : (a : Bool) → own a (place false false) ≡ false
 own-outside true = refl
 own-outside false = refl
 

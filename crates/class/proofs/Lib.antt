@@ -1,6 +1,7 @@
 -- Edge class measured by the truth table of the set operations: one edge (`Truth`, by the tables of `Rows`), from an edge to the next above it
--- (`Handing`), two edges in one place (`Coinciding`).
+-- (`Handing`), up a status (`Status`), two edges in one place (`Coinciding`).
 pub mod Rows
 pub mod Truth
 pub mod Handing
+pub mod Status
 pub mod Coinciding

@@ -6,7 +6,6 @@ use lib.Ieee.{eq}
 use Rattle.numbers.specs.declared.Coordinate.{Coordinate}
 use Rattle.events.specs.declared.Link.{Link}
 use Rattle.events.specs.declared.Link.the-variants.{None as NoLink, To}
-use Rattle.events.specs.Event.{Event}
 use Rattle.events.specs.Pool.{Pool, rowAt, store}
 use Rattle.class.specs.declared.Operation.{Operation}
 use Rattle.class.specs.Class.{Neighbour, Lower, None, Edge, fields}

@@ -89,6 +89,16 @@ pub record Describes {P : Type 0} (e : Event P) (s : Sides) : Type 0 where
 
 -- ---- two coinciding edges, one of each layer
 
+-- from a place below the pair to the one above it, where both layers have changed
+abbrev pub acrossBoth : Place → Sides
+acrossBoth p = record { below = p; above = place (not (p .subject)) (not (p .clip)) }
+
+-- p is the place below the pair: each one's in-out says whether its own layer lies there
+pub record PairAbove {P : Type 0} (p : Place) (e f : Event P) : Type 0 where
+  pub two-layers : f .subject ≡ not (e .subject)
+  pub first : own (e .subject) p ≡ e .inOut
+  pub second : own (f .subject) p ≡ f .inOut
+
 -- both layers change across the pair; both are entered, or both left
 pub record Together (s : Sides) : Type 0 where
   pub alike : s .below .clip ≡ s .below .subject

@@ -117,7 +117,7 @@ pub fn compute_fields(event: Event, lower: Lower, operation: Operation) -> Event
     with_fields(e, e.in_out, e.other_in_out, below, ResultTransition::None)
 }
 
-// The same for a Normal edge.
+// Whether the operation takes a Normal edge into the result, told from its own layer.
 fn normal_in_result(subject: bool, other_in_out: bool, operation: Operation) -> bool
     ensures { λ r. ⌜ r ≡ normalInResult operation subject «other_in_out» ⌝ }
 {
