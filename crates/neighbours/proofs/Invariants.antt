@@ -1,10 +1,10 @@
 -- What is known all through one run: of stores, of numbers at hand, of points and of refusals; and what keeps it. Most facts are of stores alone, kept where
 -- a record is stored over one with its face and where a division is done; for those there are short forms.
-use mathlib.Core.Path.{_≡_, refl}
+use mathlib.Core.Path.{_≡_, refl, _∙_}
 use Prim.Native.Nat.{ℕ, _+_, _<_, _≤_}
 use native.Mathlib.Omega.{arith}
 use Rattle.refusals.specs.declared.Refusal.{Refusal}
-use Rattle.events.specs.declared.EdgeType.the-variants.{NonContributing}
+use Rattle.events.specs.declared.EdgeType.{EdgeType}
 use Rattle.events.specs.Coordinates.{Coordinates, Cross, none, lost, point, overlap, Crossing}
 use Rattle.events.specs.Event.{Event}
 use Rattle.events.specs.Store.{Store, look}
@@ -63,15 +63,20 @@ abbrev pub Agrees : {P S : Type 0} → Invariant P S → Coordinates P → Store
 Agrees {P} {S} I C K crossing crossing′ =
     (n : ℕ) (s : S) (a b : ℕ) → I .OfStore n s → I .OfNumber n a → I .OfNumber n b → crossingOf C K crossing′ s n a b ≡ crossingOf C K crossing s n a b
 
+pub face-trans : {P : Type 0} {x y z : Event P} → Face x y → Face y z → Face x z
+face-trans f g = record { point = f .point ∙ g .point; left = f .left ∙ g .left; subject = f .subject ∙ g .subject; ring = f .ring ∙ g .ring; partner = f .partner ∙ g .partner }
+
+-- a record with another edge type has the same face
+pub typed-face : {P : Type 0} (e : Event P) (t : EdgeType) → Face (typed e t) e
+unfolding typed
+typed-face e t = record { point = refl; left = refl; subject = refl; ring = refl; partner = refl }
+
 -- where no more places are in use than there are, two edge types that change are two records stored over ones with their faces
 pub coincides-put : {P S : Type 0} (C : Coordinates P) (K : Store P S) (H : ℕ → S → Type 0) (N : ℕ → ℕ → Type 0) → Stored K → ((n : ℕ) (s : S) → H n s → n ≤ K .size s)
     → Puts K H N → Coincides C K H N
-unfolding coincided typed
+unfolding coincided
 coincides-put C K H N st fits put n s a b h at-a at-b =
-    let second = look K s n b in
-    let one : Face (typed second NonContributing) second = record { point = refl; left = refl; subject = refl; ring = refl; partner = refl } in
-    let other = face-sym (face-store st s n b (typed second NonContributing) (fits n s h) one a) in
-    put n _ a _ (put n s b _ h at-b one) at-a (record { point = other .point; left = other .left; subject = other .subject; ring = other .ring; partner = other .partner })
+    put n _ a _ (put n s b _ h at-b (typed-face _ _)) at-a (face-trans (typed-face _ _) (face-sym (face-store st s n b _ (fits n s h) (typed-face _ _) a)))
 
 -- ---- where nothing need be known of points and refusals
 

@@ -10,3 +10,6 @@ pub mod Keyed
 pub mod Both
 pub mod Growth
 pub mod Trace
+pub mod Codes
+pub mod Crossings
+pub mod Coincidences

@@ -1,7 +1,7 @@
 -- The code's tests and steps, one equation each, put together to the definition of a meeting.
-use mathlib.Core.Path.{_≡_, refl, sym, ap, ap₂, _∙_}
-use mathlib.Core.Bool.{Bool, true, false, cond, _||_, Bool·beq}
-use Prim.Native.Nat.{ℕ, _+_}
+use mathlib.Core.Path.{_≡_, ap, ap₂, _∙_}
+use mathlib.Core.Bool.{Bool, true, false, cond}
+use Prim.Native.Nat.{ℕ}
 use Rattle.refusals.specs.declared.Refusal.{Refusal}
 use Rattle.events.specs.Coordinates.{Coordinates, same, Cross, none, lost, point, overlap, Crossing}
 use Rattle.events.specs.Event.{Event, Key}

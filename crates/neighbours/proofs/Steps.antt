@@ -1,7 +1,7 @@
 -- A cut by its division's answer: two places more in use, or nothing moved.
 use mathlib.Core.Path.{_≡_, refl, sym, ap, _∙_}
-use mathlib.Core.Bool.{Bool, true, false, cond}
-use Prim.Native.Nat.{ℕ, _+_, _<_, _≤_}
+use mathlib.Core.Bool.{Bool, true, false}
+use Prim.Native.Nat.{ℕ, _+_, _<_}
 use native.Mathlib.Omega.{arith}
 use Rattle.refusals.specs.declared.Refusal.{Refusal}
 use Rattle.events.specs.Coordinates.{Coordinates}
@@ -9,7 +9,7 @@ use Rattle.events.specs.Store.{Store}
 use Rattle.division.specs.declared.Division.{Division}
 use Rattle.division.specs.declared.Division.the-variants.{Done, Refused}
 use Rattle.division.specs.declared.Divided.{Divided}
-use Rattle.division.specs.Division.{After, numbers, done, divide}
+use Rattle.division.specs.Division.{After, done, divide}
 use Rattle.division.proofs.Outcomes.{passed, as-lent}
 use Rattle.neighbours.specs.declared.step.Stop.{Stop}
 use Rattle.neighbours.specs.declared.step.Stop.the-variants.{Going, Stopped}

@@ -1,12 +1,11 @@
 -- Cuts one after the other, over any kind of coordinate and any store: each goes on from what the one before left, and none follows a refusal.
 use mathlib.Core.Bool.{Bool, cond}
-use Prim.Native.Nat.{ℕ, _+_}
-use Rattle.refusals.specs.declared.Refusal.{Refusal}
+use Prim.Native.Nat.{ℕ}
 use Rattle.events.specs.Coordinates.{Coordinates}
 use Rattle.events.specs.Store.{Store}
 use Rattle.division.specs.declared.Division.{Division}
 use Rattle.division.specs.declared.Division.the-variants.{Done, Refused as NotDivided}
-use Rattle.division.specs.Division.{After, divide}
+use Rattle.division.specs.Division.{divide}
 use Rattle.neighbours.specs.declared.step.Stop.{Stop}
 use Rattle.neighbours.specs.declared.step.Stop.the-variants.{Going, Stopped}
 
@@ -36,7 +35,7 @@ module _ {P S : Type 0} (C : Coordinates P) (K : Store P S) where
   unfoldable pub cut : S → ℕ → ℕ → P → Step S
   cut s used i p = let x = divide C K s used i p in step (x .store) (x .used) (stopOf (x .answer))
 
-  -- .. unless it is not to be
+  -- the same, where the segment is to be cut at all: b says that it is not
   unfoldable pub cutUnless : Bool → S → ℕ → ℕ → P → Step S
   cutUnless b s used i p = cond b (step s used Going) (cut s used i p)
 

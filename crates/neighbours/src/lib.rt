@@ -26,7 +26,7 @@ pub struct Neighbours {
     pub met: Met,
 }
 
-// Two left records of which the first `used` places of the pool hold all; codes 0 to 3 and their divisions as the source.
+// The segments of two left records, where the first `used` places of the pool are in use: codes 0 to 3 and their divisions as the source.
 pub fn possible_intersection(
     points: &mut [[f64; 2]],
     marks: &mut [[u32; 12]],

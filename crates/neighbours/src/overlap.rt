@@ -67,19 +67,20 @@ fn type_by(first: Event, second: Event) -> EdgeType
     EdgeType::DifferentTransition
 }
 
-// The edge types of two segments with one left end.
+// Of two segments with one left end the second does not count, and the first tells how the layers change across both.
 fn coincide(points: &mut [[f64; 2]], marks: &mut [[u32; 12]], used: u32, a: u32, b: u32)
     ensures { λ _. ⌜ pool (now (points .exit)) (now (marks .exit)) ≡ Spec.coincided binary64 stored (pool (now (points .entry)) (now (marks .entry))) used a b ⌝ }
 {
     let first = read_used(points, marks, used, a);
     let second = read_used(points, marks, used, b);
+    let told = type_by(first, second);
     store_event(
         points,
         marks,
         b,
         with_type(second, EdgeType::NonContributing),
     );
-    store_event(points, marks, a, with_type(first, type_by(first, second)));
+    store_event(points, marks, a, with_type(first, told));
 }
 
 // One left end: h ends first, and k, where it ends later, is cut there.

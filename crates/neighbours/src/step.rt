@@ -3,7 +3,6 @@ ghost use mathlib.Core.Path.{_≡_};
 ghost use Prim.Native.Nat.{_+_};
 ghost use Rattle.events.specs.Binary64.{binary64};
 ghost use Rattle.events.specs.Pool.{pool, stored};
-ghost use Rattle.division.specs.Division.{divide};
 ghost use Rattle.neighbours.specs.Step as Spec;
 ghost use Rattle.neighbours.specs.Step.{step};
 use division::Division;
@@ -53,7 +52,7 @@ pub fn cut(
     }
 }
 
-// .. unless it is not to be.
+// The same, where the segment is to be cut at all.
 pub fn cut_unless(
     points: &mut [[f64; 2]],
     marks: &mut [[u32; 12]],

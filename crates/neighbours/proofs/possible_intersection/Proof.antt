@@ -1,6 +1,6 @@
 -- Four points are read, and what they have in common decides.
 use borrow.Author.Needs.{needs}
-use mathlib.Core.Path.{_∙_, ap}
+use mathlib.Core.Path.{ap}
 use Rattle.events.specs.Binary64.{inMode, crossOf}
 use Rattle.neighbours.proofs.Meetings.{meet-is}
 use Rattle.neighbours.proofs.possible_intersection.Statement.{statement}

@@ -1,5 +1,4 @@
 -- The left end is looked at first.
-use borrow.Author.Needs.{needs}
 use Rattle.neighbours.proofs.Meetings.{at-left, at-right}
 use Rattle.neighbours.proofs.meeting.at_end.Statement.{statement}
 use Rattle.neighbours.proofs.meeting.at_end.Tie as tie

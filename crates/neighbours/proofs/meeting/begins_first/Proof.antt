@@ -1,5 +1,4 @@
 -- The two keys are the definition's.
-use borrow.Author.Needs.{needs}
 use Rattle.neighbours.proofs.meeting.begins_first.Statement.{statement}
 use Rattle.neighbours.proofs.meeting.begins_first.Tie as tie
 

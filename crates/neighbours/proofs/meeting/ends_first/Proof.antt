@@ -1,12 +1,4 @@
 -- The two keys are those of the definition's partners.
-use borrow.Author.Needs.{needs}
-use mathlib.Core.Path.{_≡_, ap, ap₂, _∙_}
-use Rattle.events.specs.Event.{Event, Key}
-use Rattle.events.specs.Pool.{Pool, stored, pool}
-use Rattle.events.specs.Binary64.{binary64}
-use Rattle.order.specs.Order as Order
-use Rattle.order.specs.Keys.{keyUsed}
-use Rattle.numbers.specs.declared.Coordinate.{Coordinate}
 use Rattle.neighbours.proofs.Meetings.{ends-is}
 use Rattle.neighbours.proofs.meeting.ends_first.Statement.{statement}
 use Rattle.neighbours.proofs.meeting.ends_first.Tie as tie

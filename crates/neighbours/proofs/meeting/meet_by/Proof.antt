@@ -2,7 +2,6 @@
 use borrow.Author.Needs.{needs}
 use mathlib.Core.Path.{refl, ap}
 use Rattle.events.specs.Binary64.{crossOf}
-use Rattle.crossing.specs.declared.LineIntersection.{LineIntersection}
 use Rattle.neighbours.specs.Neighbours.{ended, metBy}
 use Rattle.neighbours.proofs.Meetings.{still-is, none-met, lost-met, point-met, one-layer, two-layers}
 use Rattle.neighbours.proofs.meeting.meet_by.Statement.{statement}

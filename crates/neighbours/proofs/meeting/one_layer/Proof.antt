@@ -1,7 +1,6 @@
 -- The two records read are the definition's.
-use borrow.Author.Needs.{needs}
-use mathlib.Core.Path.{_≡_, ap, ap₂}
-use mathlib.Core.Bool.{Bool, Bool·beq}
+use mathlib.Core.Path.{ap₂}
+use mathlib.Core.Bool.{Bool·beq}
 use Rattle.events.specs.Event.{Event}
 use Rattle.numbers.specs.declared.Coordinate.{Coordinate}
 use Rattle.neighbours.proofs.meeting.one_layer.Statement.{statement}

@@ -1,5 +1,4 @@
 -- The record read is the definition's.
-use borrow.Author.Needs.{needs}
 use mathlib.Core.Path.{ap}
 use Rattle.events.specs.Event.{Event}
 use Rattle.numbers.specs.declared.Coordinate.{Coordinate}

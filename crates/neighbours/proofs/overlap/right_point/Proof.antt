@@ -1,5 +1,4 @@
 -- The two records read are the definition's.
-use borrow.Author.Needs.{needs}
 use Rattle.events.specs.Binary64.{binary64}
 use Rattle.neighbours.proofs.Overlaps.{right-is}
 use Rattle.neighbours.proofs.overlap.right_point.Statement.{statement}

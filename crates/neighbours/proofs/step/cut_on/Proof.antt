@@ -1,6 +1,6 @@
 -- The first step goes on or has stopped; where it goes on, its new left end is the last place in use.
 use borrow.Author.Needs.{needs}
-use mathlib.Core.Path.{_≡_, ap, _∙_}
+use mathlib.Core.Path.{_≡_}
 use Prim.Native.Nat.{_+_, _-_}
 use native.Mathlib.Omega.{arith}
 use Rattle.neighbours.proofs.Steps.{then-on, then-stopped, grown}
