@@ -25,7 +25,7 @@ use Rattle.neighbours.specs.declared.Met.the-variants.{Code}
 use Rattle.neighbours.specs.declared.step.Stop.the-variants.{Going}
 use Rattle.neighbours.specs.Step.{cutUnless}
 use Rattle.neighbours.specs.Neighbours.{Meeting, ended, typed, typeBy, rightOf, coincided, leftShared, meet}
-use Rattle.neighbours.specs.Pairs.{LeftEnd, TypeTells, FirstCounts}
+use Rattle.neighbours.specs.Pairs.{LeftEnd, FirstTyped, TypeTells, FirstCounts}
 use Rattle.neighbours.proofs.Invariants.{face-trans, typed-face}
 use Rattle.neighbours.proofs.Codes.{went, Came, at-point, one-left, another, came}
 use Rattle.neighbours.proofs.Crossings.{halved}
@@ -82,6 +82,15 @@ module _ {P : Type 0} (p : Place) (e f : Event P) (h : PairAbove p e f) where
       go : ((typeBy e f ≡ SameTransition) × (f .inOut ≡ e .inOut)) ⊎ ((typeBy e f ≡ DifferentTransition) × (f .inOut ≡ not (e .inOut))) → inResult op x ≡ changes op (acrossBoth p)
       go (inl (t, flags)) = same-in-result op x (acrossBoth p) (is ∙ t) (together p e f h flags)
       go (inr (t, flags)) = different-in-result op x (acrossBoth p) (is ∙ t) (oppositely p e f h flags)
+
+-- what the types say in the words of the truth table
+pub typed-counts : {P : Type 0} (row row' : ℕ → Event P) (a b : ℕ) (p : Place) → PairAbove p (row a) (row b) → FirstTyped row row' a b → FirstCounts p row' a b
+typed-counts row row' a b p pair t =
+    record {
+      first-tells = rw (t .first) (type-tells p _ _ pair);
+      first-counts = λ op. type-counts p _ _ pair op (row' a) (t .first);
+      second-silent = λ op. non-contributing op (row' b) (t .second);
+    }
 
 -- ---- the cut that may follow
 
@@ -154,13 +163,8 @@ module _ {P S : Type 0} (C : Coordinates P) {K : Store P S} (L : Stored K) (s : 
 -- ---- the meeting
 
 module _ {P S : Type 0} (C : Coordinates P) {K : Store P S} (L : Stored K) (crossing : Crossing P) (s : S) (used a b : ℕ) (fits : used ≤ K .size s) (u : LeftEnd (look K s used) used a) (v : LeftEnd (look K s used) used b) (apart : a ≢ b) where
-  -- the types of the two after code 2
-  record Typed (row' : ℕ → Event P) : Type 0 where
-    pub first : row' a .edgeType ≡ typeBy (look K s used a) (look K s used b)
-    pub second : row' b .edgeType ≡ NonContributing
-
   shared-typed : (oneRight : Bool) (h k : ℕ) → (k ≡ a) ⊎ (k ≡ b) → leftShared C K s used a b oneRight h k .stop ≡ Going
-      → Typed (look K (leftShared C K s used a b oneRight h k .store) (leftShared C K s used a b oneRight h k .used))
+      → FirstTyped (look K s used) (look K (leftShared C K s used a b oneRight h k .store) (leftShared C K s used a b oneRight h k .used)) a b
   unfolding leftShared
   shared-typed oneRight h k which on =
       let kept = types-kept-unless C L (coincided C K s used a b) used k (rightOf C K s used h .point) (left-end which) oneRight on in
@@ -173,23 +177,16 @@ module _ {P S : Type 0} (C : Coordinates P) {K : Store P S} (L : Stored K) (cros
       left-end (inl e) = rw e (left-kept _ _ used a (faces C L s used a b fits) u)
       left-end (inr e) = rw e (left-kept _ _ used b (faces C L s used a b fits) v)
 
-  two-typed : meet C K crossing s used a b .met ≡ Code 2 → Typed (look K (meet C K crossing s used a b .store) (meet C K crossing s used a b .used))
+  -- After code 2 the first is typed by the flags of both, and the second does not count ..
+  pub two-typed : meet C K crossing s used a b .met ≡ Code 2 → FirstTyped (look K s used) (look K (meet C K crossing s used a b .store) (meet C K crossing s used a b .used)) a b
   unfolding meet ended
   two-typed h = go _ (came C K s used a b _ _ _) h
     where
-      go : {found : Cross P} {oneRight : Bool} (m : Meeting S) → Came C K s used a b found oneRight m → m .met ≡ Code 2 → Typed (look K (m .store) (m .used))
+      go : {found : Cross P} {oneRight : Bool} (m : Meeting S) → Came C K s used a b found oneRight m → m .met ≡ Code 2 → FirstTyped (look K s used) (look K (m .store) (m .used)) a b
       go m (at-point p is) h = absurd (let z = went _ 1 2 h .1 in omega arith)
       go m (one-left i k which) h = shared-typed _ i k which (went _ 2 2 h .0)
       go m (another x c not-1 not-2) h = absurd (not-2 (went _ c 2 h .1))
 
-  -- After code 2 the first counts and the second does not.
+  -- .. so that the truth table is met by the first alone.
   pub one-counts : (p : Place) → PairAbove p (look K s used a) (look K s used b) → meet C K crossing s used a b .met ≡ Code 2 → FirstCounts p (look K (meet C K crossing s used a b .store) (meet C K crossing s used a b .used)) a b
-  one-counts p pair h =
-      let t = two-typed h in
-      let m = meet C K crossing s used a b in
-      record {
-        first-tells = rw (t .first) (type-tells p _ _ pair);
-        first-counts = λ op. type-counts p _ _ pair op (look K (m .store) (m .used) a) (t .first);
-        second = t .second;
-        second-silent = λ op. non-contributing op (look K (m .store) (m .used) b) (t .second);
-      }
+  one-counts p pair h = typed-counts _ _ a b p pair (two-typed h)

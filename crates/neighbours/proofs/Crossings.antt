@@ -138,7 +138,7 @@ module _ {P S : Type 0} (C : Coordinates P) {K : Store P S} (L : Stored K) (cros
       → EachCut C found (look K s used) (look K (crossed C K s used a b p .store) (crossed C K s used a b p .used)) a b
   unfolding crossed atEnd
   crossed-each found p is h =
-      let on = went-on (cutUnless C K (atEnd C K s used a p) s used a p) (λ t n. cutUnless C K (atEnd C K s used b p) t n b p) h in
+      let on = went-on _ _ h in
       let first = alone C L s used a p (atEnd C K s used a p) u (on .first) in
       let left = second-left C _ _ used _ a b p first u v apart in
       let second = alone C L _ _ b p (atEnd C K s used b p) left (sym (ap (λ (x : Step S). x .stop) (on .then)) ∙ h) in

@@ -11,6 +11,7 @@ use Rattle.class.specs.Class.{inResult}
 use Rattle.class.specs.Truth.{Place, changes, acrossBoth, Together, Oppositely}
 use Rattle.division.specs.Division.{moved}
 use Rattle.division.specs.Records.{Paired}
+use Rattle.neighbours.specs.Neighbours.{typeBy}
 
 -- r is the left end of a segment, both of whose records are among the first n
 pub record LeftEnd {P : Type 0} (row : ℕ → Event P) (n r : ℕ) : Type 0 where
@@ -20,6 +21,11 @@ pub record LeftEnd {P : Type 0} (row : ℕ → Event P) (n r : ℕ) : Type 0 whe
 
 -- ---- code 2: two coinciding edges of two layers
 
+-- the first is typed by the flags of both, the second does not count
+pub record FirstTyped {P : Type 0} (row row' : ℕ → Event P) (a b : ℕ) : Type 0 where
+  pub first : row' a .edgeType ≡ typeBy (row a) (row b)
+  pub second : row' b .edgeType ≡ NonContributing
+
 -- t tells exactly how the layers change across a pair above the place p
 pub record TypeTells (p : Place) (t : EdgeType) : Type 0 where
   pub same : t ≡ SameTransition → Together (acrossBoth p)
@@ -27,11 +33,11 @@ pub record TypeTells (p : Place) (t : EdgeType) : Type 0 where
   pub different : t ≡ DifferentTransition → Oppositely (acrossBoth p)
   pub different-back : Oppositely (acrossBoth p) → t ≡ DifferentTransition
 
--- Of the pair exactly one counts, the first: it is in the result exactly if the operation's value changes across both. The second never is.
+-- Of the pair exactly one counts, the first: its type tells how the layers change, and it is in the result exactly if the operation's value changes across
+-- both. The second never is.
 pub record FirstCounts {P : Type 0} (p : Place) (row' : ℕ → Event P) (a b : ℕ) : Type 0 where
   pub first-tells : TypeTells p (row' a .edgeType)
   pub first-counts : (op : Operation) → inResult op (row' a) ≡ changes op (acrossBoth p)
-  pub second : row' b .edgeType ≡ NonContributing
   pub second-silent : (op : Operation) → inResult op (row' b) ≡ false
 
 -- ---- code 1: a crossing at the point p
