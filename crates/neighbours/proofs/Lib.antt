@@ -1,4 +1,5 @@
--- Laws of neighbours: what the code does is the definition; and the walk through a meeting, by which facts about runs are proved.
+-- Laws of neighbours: what the code does is the definition; the walk through a meeting, by which facts about runs are proved; and what a meeting makes of
+-- two segments that cross (`Crossings`) or coincide (`Coincidences`).
 pub mod Steps
 pub mod Overlaps
 pub mod Meetings
