@@ -2,4 +2,5 @@
 pub mod Connection
 pub mod Answer
 pub mod Shown
+pub mod Demand
 pub mod Steps

@@ -130,6 +130,14 @@ pub cause : (p : Pool) (list : List ℕ) (room : Room) (x : Refusal) → connect
 unfolding connectPool stored
 cause p list room x e = D.refused-cause binary64 stored p (length (p .points)) (length (p .marks)) list room x e
 
+-- by 9 as contours are made, and by 9 only then
+pub stopped-nine : (p : Pool) (list : List ℕ) (room : Room) (x : Refusal) (f : Finished Coordinate Pool) → connectPool p list room ≡ stopped x f → x .number ≡ 9
+unfolding connectPool stored
+stopped-nine p list room x f e = D.stopped-nine binary64 stored p (length (p .points)) (length (p .marks)) list room x f e
+
+pub refused-not-nine : (p : Pool) (list : List ℕ) (room : Room) (x : Refusal) → connectPool p list room ≡ refused x → x .number ≢ 9
+refused-not-nine p list room x e = D.cause-not-9 binary64 (rowAt p) (size p) (length (p .points)) (length (p .marks)) list room x (cause p list room x e)
+
 -- A place for each listed event, and half as many for contours and for holes, are never too few.
 pub always-room : (p : Pool) (list : List ℕ) (room : Room) → Roomy list room → (x : Refusal) → connectPool p list room ≡ refused x → x .number ≢ 5
 unfolding stored laws

@@ -1,6 +1,6 @@
 -- Demand 3 for any kind of coordinate with the laws of event order and any store of records: order, closing, once.
 use mathlib.Core.Path.{_≡_, refl, sym, ap, ap₂, _∙_}
-use mathlib.Core.Logic.{_⊎_, inl, inr}
+use mathlib.Core.Logic.{_⊎_, inl, inr, _≢_}
 use mathlib.Core.Bool.{Bool, true, false, cond, _||_}
 use mathlib.Core.List.{List, [], _∷_, map, List·Memᴰ, List·Memᴰ·cases-cons, List·Memᴰ·not-nil}
 use Prim.Native.Nat.{ℕ, suc, _+_, _<_, _%_}
@@ -30,10 +30,10 @@ use Rattle.contours.specs.Renaming.{Renumbered, Relisted, NoneOneWay, Ev
 use Rattle.contours.proofs.Lists.{All, getD-map, mem-perm}
 use Rattle.contours.proofs.Places.{place-map, place-of, place-getD}
 use Rattle.contours.proofs.Marks.{bit, openFrom}
-use Rattle.contours.proofs.Turns.{halted-in}
+use Rattle.contours.proofs.Turns.{Ends, by-nine, halted-in}
 use Rattle.contours.proofs.Walked.{Good, visits, walks, AllClosed, each-once, trails-in, all-closed}
 use Rattle.contours.proofs.Accepted.{Accepted, accepted}
-use Rattle.contours.proofs.Cause.{Cause, cause}
+use Rattle.contours.proofs.Cause.{Cause, list1, size1, unfit2, mistake4, half8, room5, Short, short-points, short-contours, short-holes, cause}
 use Rattle.contours.proofs.Good.{size, sorted, good, by-value, ends-open, s-distinct, rec-in, rec-other, point-is}
 use Rattle.contours.proofs.Renamed.{order-kept, table-kept}
 use Rattle.contours.proofs.Refusals.{SameNumber, both-pass, both-refuse, accept-same}
@@ -167,6 +167,37 @@ refused-cause C K s points marks list room x e = go (accept C (K .rowAt s) (K .s
     go : (a : Check) → accept C (K .rowAt s) (K .size s) points marks list room ≡ a → afterChecks C K s list a ≡ refused x → Cause C (K .rowAt s) (K .size s) points marks list room x
     go Passed q e = absurd (by (traced C K s list) e)
     go (Refused y) q e = let z : y ≡ x = cc in cause C (K .rowAt s) (K .size s) points marks list room x (q ∙ ap Refused z)
+
+module _ {P : Type 0} (C : Coordinates P) (row : ℕ → Event P) (n points marks : ℕ) (list : List ℕ) (room : Room) (x : Refusal) where
+  short-not-9 : (events edges : ℕ) → Short room events edges x → x .number ≢ 9
+  short-not-9 events edges (short-points a e) q = omega (arith, ap (λ (y : Refusal). y .number) e)
+  short-not-9 events edges (short-contours a b e) q = omega (arith, ap (λ (y : Refusal). y .number) e)
+  short-not-9 events edges (short-holes a b c e) q = omega (arith, ap (λ (y : Refusal). y .number) e)
+
+  -- no check refuses by 9
+  pub cause-not-9 : Cause C row n points marks list room x → x .number ≢ 9
+  cause-not-9 (list1 l e) q = omega (arith, ap (λ (y : Refusal). y .number) e)
+  cause-not-9 (size1 l m e) q = omega (arith, ap (λ (y : Refusal). y .number) e)
+  cause-not-9 (unfit2 t) q = omega (arith, t .number-is)
+  cause-not-9 (mistake4 u t) q = omega (arith, t .number-is)
+  cause-not-9 (half8 u m t) q = omega (arith, t .number-is)
+  cause-not-9 (room5 u m t s) q = short-not-9 _ _ s q
+
+-- .. and nothing else stops a list that has passed them
+pub stopped-nine : {P S : Type 0} (C : Coordinates P) (K : Store P S) (s : S) (points marks : ℕ) (list : List ℕ) (room : Room) (x : Refusal) (f : Finished P S)
+    → connect C K s points marks list room ≡ stopped x f → x .number ≡ 9
+unfolding connect afterChecks outcomeOf traced
+stopped-nine C K s points marks list room x f = go (accept C (K .rowAt s) (K .size s) points marks list room)
+  where
+    by : (t : Answer) → Ends (length (rows C K s list)) (λ i ms cs. Unit {0}) t → outcomeOf C K s list t ≡ stopped x f → x .number ≡ 9
+    by (done ms cs) h e = let z : _≡_ {A = ℕ} 1 0 = cc in absurd (suc-ne-zero 0 z)
+    by (halted number i ms cs) h e =
+        let z : record { number = number; place = getD (ordered (K .rowAt s) C list) i 0 } ≡ x = cc in
+        sym (ap (λ (y : Refusal). y .number) z) ∙ h .0
+
+    go : (a : Check) → afterChecks C K s list a ≡ stopped x f → x .number ≡ 9
+    go Passed e = by (traced C K s list) (by-nine (same C) (length (rows C K s list)) (rowsAt C K s list)) e
+    go (Refused y) e = let z : _≡_ {A = ℕ} 1 0 = cc in absurd (suc-ne-zero 0 z)
 
 -- ---- closing and once
 
