@@ -1,19 +1,17 @@
 -- From bytes to bytes: the edge lines of a sheet in another order within their sections are a sheet, and if all edges load and no taking met a tie, the
 -- same bytes come out, or it is refused by the same number. (Edges that do not load may be refused by 2 in one order and by 3 in another.)
 use mathlib.Core.Path.{_≡_, refl, sym, ap, _∙_, subst}
-use mathlib.Core.List.{List, [], _∷_, List·Permᴰ, List·Permᴰ·nil, List·Permᴰ·cons, List·Permᴰ·swap, List·Permᴰ·trans}
+use mathlib.Core.List.{List, List·Permᴰ, List·Permᴰ·nil, List·Permᴰ·cons, List·Permᴰ·swap, List·Permᴰ·trans}
 use Prim.Native.Nat.{ℕ}
 use native.Mathlib.Omega.{arith}
-use lib.ListN.{length}
 use Rattle.refusals.specs.declared.Refusal.{Refusal}
 use Rattle.class.specs.declared.Operation.{Operation}
 use Rattle.contours.proofs.Lists.{length-perm}
 use Rattle.sheet.specs.declared.edges.Edge.{Edge}
 use Rattle.sheet.specs.Sheet.{Sheet, EdgeFits, AllFit, Fits, written}
-use Rattle.sheet.specs.Reading.{Reading, Accepted, readSheet}
 use Rattle.sheet.proofs.Sheets.{accepts}
-use Rattle.overlay_work.specs.Overlay.{Work, Text, Stopped, overlayEdges, overlaySheet, afterReading, work, put, overlay}
-use Rattle.overlay_order.specs.Lines.{Permuted, endsIn, labelsIn, SameWork, same-text, same-number, Untied}
+use Rattle.overlay_work.specs.Overlay.{Work, Text, Stopped, endsIn, labelsIn, overlayEdges, overlaySheet, afterReading, work, put, overlay}
+use Rattle.overlay_order.specs.Lines.{Permuted, SameWork, same-text, same-number, Untied}
 use Rattle.overlay_order.proofs.Edges.{reordered}
 use Rattle.overlay_order.proofs.Swept.{loaded-alike}
 

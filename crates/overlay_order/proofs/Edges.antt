@@ -1,9 +1,9 @@
 -- Edge lines in another order within their sections are the same edges in another order.
-use mathlib.Core.Path.{_≡_, refl, sym, ap, _∙_, subst}
+use mathlib.Core.Path.{_≡_, refl, ap}
 use mathlib.Core.List.{List, [], _∷_, _++_, map, List·Permᴰ, List·Permᴰ·nil, List·Permᴰ·cons, List·Permᴰ·swap, List·Permᴰ·trans}
 use Prim.Native.Nat.{ℕ}
 use native.Mathlib.Omega.{arith}
-use lib.ListN.{length, length-append, length-map}
+use lib.ListN.{length, length-append}
 use Rattle.numbers.specs.declared.Coordinate.{Coordinate}
 use Rattle.loading.specs.Loading as L
 use Rattle.loading.specs.OnPool.{edgeOf, edgesOf}
@@ -12,7 +12,8 @@ use Rattle.sheet.specs.declared.edges.Edge.{Edge}
 use Rattle.sheet.specs.Sheet.{Sheet}
 use Rattle.sheet.specs.Stored.{endsOf, labelsOf}
 use Rattle.sweep_order.specs.OnPool.{Reordered}
-use Rattle.overlay_order.specs.Lines.{Permuted, endsIn, labelsIn}
+use Rattle.overlay_work.specs.Overlay.{endsIn, labelsIn}
+use Rattle.overlay_order.specs.Lines.{Permuted}
 
 -- ---- other orders
 

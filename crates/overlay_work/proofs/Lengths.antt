@@ -121,6 +121,10 @@ fair bytes = go (readSheet bytes) (read-by bytes)
     go (Accepted s) h = fair-loaded (s .operation) _ _ _
     go (R.Refused number line) h = h
 
+-- no text of a sheet has more bytes
+pub text-short : (bytes t : List ℕ) → work bytes ≡ Text t → length t ≤ longestText
+text-short bytes t e = rw e at (fair bytes)
+
 -- ---- the whole
 
 fits : (w : Work) (out : List ℕ) → Fair w → longestText ≤ length out → (r : Refusal) → put w out .answer ≡ Refused r → r .number ≢ 5

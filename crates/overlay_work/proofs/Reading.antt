@@ -1,6 +1,6 @@
 -- What was read is in the first places of the arrays, or is refused.
 use mathlib.Core.Path.{_≡_, refl, sym, ap, _∙_}
-use mathlib.Core.List.{List, _++_, map}
+use mathlib.Core.List.{List, map}
 use Prim.Native.Nat.{ℕ, _+_, _≤_}
 use native.Mathlib.Omega.{arith}
 use lib.Ieee.{Float}
@@ -18,7 +18,7 @@ use Rattle.sheet.specs.Stored.{endsOf, labelsOf, leave}
 use Rattle.sheet.specs.Stored as Stored
 use Rattle.sheet.proofs.Sheets.{describes}
 use Rattle.overlay_work.specs.declared.Overlaid.the-variants.{Refused}
-use Rattle.overlay_work.specs.Overlay.{Work, Stopped, After, left, put, work, overlay, noEnds, noLabels, overlayEdges, overlaySheet, afterReading}
+use Rattle.overlay_work.specs.Overlay.{Work, Stopped, After, left, put, work, overlay, noEnds, noLabels, endsIn, labelsIn, overlayEdges, overlaySheet, afterReading}
 
 -- ---- the arrays
 
@@ -31,12 +31,6 @@ unfolding noLabels
 labels-room = refl
 
 -- ---- a sheet
-
-abbrev endsIn : Sheet → List (List Float)
-endsIn s = map endsOf (s .subject) ++ map endsOf (s .clip)
-
-abbrev labelsIn : Sheet → List (List ℕ)
-labelsIn s = map (labelsOf 1) (s .subject) ++ map (labelsOf 0) (s .clip)
 
 module _ (s : Sheet) (f : Fits s) where
   abbrev count : ℕ

@@ -1,5 +1,5 @@
 -- By which numbers a step is refused: reading by 10 or 1, loading by 1, 2 or 3, the sweep by 1, 2, 4, 6 or 7, connection on its way by 9. None is 5.
-use mathlib.Core.Path.{_≡_, ap}
+use mathlib.Core.Path.{_≡_}
 use mathlib.Core.Logic.{_≢_, inl, inr}
 use mathlib.Core.Bool.{Bool, true, false, not, cond, _||_}
 use mathlib.Core.List.{List, [], _∷_}
@@ -7,12 +7,12 @@ use Prim.Native.Nat.{ℕ, zero, suc, _+_, _-_, _*_}
 use native.Mathlib.Omega.{arith}
 use lib.Dec.{eqb, ltb}
 use lib.Ieee.{Float}
-use lib.ListN.{length, getD}
+use lib.ListN.{length}
 use Rattle.refusals.specs.declared.Refusal.{Refusal}
 use Rattle.numbers.specs.declared.Coordinate.{Coordinate}
 use Rattle.events.specs.Coordinates.{same}
 use Rattle.events.specs.Binary64.{binary64}
-use Rattle.events.specs.Pool.{Pool, stored}
+use Rattle.events.specs.Pool.{Pool}
 use Rattle.class.specs.declared.Operation.{Operation}
 use Rattle.checks.specs.declared.Check.{Check}
 use Rattle.checks.specs.declared.Check.the-variants.{Passed, Refused as Struck}
@@ -28,12 +28,10 @@ use Rattle.sweep.specs.declared.Outcome.the-variants as Sweeping
 use Rattle.crossing.specs.Modes as Modes
 use Rattle.sweep.specs.OnPool.{subdividePool}
 use Rattle.sweep.proofs.Refusals.{Known, told-by}
-use Rattle.contours.specs.Result.{ordered}
-use Rattle.contours.specs.Contours.{Answer, done, halted}
-use Rattle.contours.specs.Accept.{Room, accept}
-use Rattle.contours.specs.Connect.{Finished, stopped, records, rows, rowsAt, outcomeOf, traced, afterChecks, connect}
+use Rattle.contours.specs.Accept.{Room}
+use Rattle.contours.specs.Connect.{Finished, stopped}
 use Rattle.contours.specs.OnPool.{connectPool}
-use Rattle.contours.proofs.Turns.{Ends, by-nine}
+use Rattle.contours.proofs.AtBinary64.{stopped-nine}
 
 -- ---- reading
 
@@ -132,15 +130,4 @@ sweep-by o p n lent r e = known-by r (told-by o Modes.ordered p n lent r e)
 -- ---- connection, once its checks have passed
 
 pub stopped-by : (p : Pool) (list : List ℕ) (room : Room) (r : Refusal) (f : Finished Coordinate Pool) → connectPool p list room ≡ stopped r f → r .number ≢ 5
-unfolding connectPool connect afterChecks outcomeOf traced
-stopped-by p list room r f = check (accept binary64 (records binary64 stored p) (stored .size p) (length (p .points)) (length (p .marks)) list room)
-  where
-    of : (t : Answer) → Ends (length (rows binary64 stored p list)) (λ i ms cs. Unit {0}) t → outcomeOf binary64 stored p list t ≡ stopped r f → r .number ≢ 5
-    of (done ms cs) h e = let z : _≡_ {A = ℕ} 0 1 = cc in absurd (omega arith)
-    of (halted number i ms cs) h e =
-        let z : record { number = number; place = getD (ordered (records binary64 stored p) binary64 list) i 0 } ≡ r = cc in
-        omega (arith, h .0, ap (λ (x : Refusal). x .number) z)
-
-    check : (a : Check) → afterChecks binary64 stored p list a ≡ stopped r f → r .number ≢ 5
-    check Passed e = of (traced binary64 stored p list) (by-nine (same binary64) (length (rows binary64 stored p list)) (rowsAt binary64 stored p list)) e
-    check (Struck x) e = let z : _≡_ {A = ℕ} 0 1 = cc in absurd (omega arith)
+stopped-by p list room r f e = omega (arith, stopped-nine p list room r f e)

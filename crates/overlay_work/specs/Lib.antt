@@ -1,3 +1,4 @@
 -- Overlay's work: from the bytes of a sheet to the bytes of its contours.
 pub mod Overlay
 pub mod Answer
+pub mod Insured

@@ -119,9 +119,15 @@ overlayEdgesIn n o ends labels = afterLoading o (noneTaken n) (load ends labels 
 unfoldable pub overlayEdges : Operation → List (List Float) → List (List ℕ) → Work
 overlayEdges o ends labels = overlayEdgesIn poolPlaces o ends labels
 
+-- a sheet's edges in the form that loading takes, subject first
+abbrev pub endsIn : Sheet → List (List Float)
+endsIn s = map endsOf (s .subject) ++ map endsOf (s .clip)
+
+abbrev pub labelsIn : Sheet → List (List ℕ)
+labelsIn s = map (labelsOf 1) (s .subject) ++ map (labelsOf 0) (s .clip)
+
 unfoldable pub overlaySheet : Sheet → Work
-overlaySheet s =
-    overlayEdges (s .operation) (map endsOf (s .subject) ++ map endsOf (s .clip)) (map (labelsOf 1) (s .subject) ++ map (labelsOf 0) (s .clip))
+overlaySheet s = overlayEdges (s .operation) (endsIn s) (labelsIn s)
 
 unfoldable pub afterReading : Reading → Work
 afterReading (Reading.Accepted s) = overlaySheet s
