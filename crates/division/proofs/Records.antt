@@ -1,4 +1,4 @@
--- Every record after a division: of the four stores, each is read back at its own number and at no other, because the two old numbers are in use and
+-- Every record after a division: of the four writes, each is read back at its own number and at no other, because the two old numbers are in use and
 -- the two new ones are not.
 use mathlib.Core.Path.{_≡_, refl, sym, _∙_}
 use mathlib.Core.Logic.{_≢_}
@@ -31,28 +31,28 @@ module _ {P S : Type 0} {K : Store P S} (L : Stored K) (s : S) (used i : ℕ) (e
 
   pub size-parted : K .size after ≡ K .size s
   unfolding parted
-  size-parted = L .size-store _ _ _ ∙ L .size-store _ _ _ ∙ L .size-store _ _ _ ∙ L .size-store _ _ _
+  size-parted = L .size-store _ _ _ ∙ L .size-store _ _ _ ∙ L .size-enter _ _ _ ∙ L .size-enter _ _ _
 
   module _ (room : used + 1 < K .size s) (own : i < used) (other : e .partner < used) where
     right-at : K .rowAt after used ≡ newEnd e c false i
     unfolding parted
-    right-at = rw (L .away _ (e .partner) used _ (λ h. omega arith), L .away _ i used _ (λ h. omega arith), L .away _ (used + 1) used _ (λ h. omega arith)) (L .here s used _ (omega arith))
+    right-at = rw (L .away _ (e .partner) used _ (λ h. omega arith), L .away _ i used _ (λ h. omega arith), L .away-enter _ (used + 1) used _ (λ h. omega arith)) (L .here-enter s used _ (omega arith))
 
     left-at : K .rowAt after (used + 1) ≡ newEnd e c keep (e .partner)
     unfolding parted
-    left-at = rw (L .away _ (e .partner) (used + 1) _ (λ h. omega arith), L .away _ i (used + 1) _ (λ h. omega arith)) (L .here _ (used + 1) _ (rw (L .size-store s used (newEnd e c false i)) room))
+    left-at = rw (L .away _ (e .partner) (used + 1) _ (λ h. omega arith), L .away _ i (used + 1) _ (λ h. omega arith)) (L .here-enter _ (used + 1) _ (rw (L .size-enter s used (newEnd e c false i)) room))
 
     own-at : i ≢ e .partner → K .rowAt after i ≡ linked e used (e .left)
     unfolding parted
-    own-at d = rw (L .away _ (e .partner) i _ d) (L .here _ i _ (rw (L .size-store _ (used + 1) (newEnd e c keep (e .partner)), L .size-store s used (newEnd e c false i)) (omega arith)))
+    own-at d = rw (L .away _ (e .partner) i _ d) (L .here _ i _ (rw (L .size-enter _ (used + 1) (newEnd e c keep (e .partner)), L .size-enter s used (newEnd e c false i)) (omega arith)))
 
     other-at : K .rowAt after (e .partner) ≡ linked f (used + 1) (cond keep (f .left) true)
     unfolding parted
-    other-at = L .here _ (e .partner) _ (rw (L .size-store _ i (linked e used (e .left)), L .size-store _ (used + 1) (newEnd e c keep (e .partner)), L .size-store s used (newEnd e c false i)) (omega arith))
+    other-at = L .here _ (e .partner) _ (rw (L .size-store _ i (linked e used (e .left)), L .size-enter _ (used + 1) (newEnd e c keep (e .partner)), L .size-enter s used (newEnd e c false i)) (omega arith))
 
     rest-at : (r : ℕ) → r ≢ used → r ≢ used + 1 → r ≢ i → r ≢ e .partner → K .rowAt after r ≡ K .rowAt s r
     unfolding parted
-    rest-at r a b d g = L .away _ (e .partner) r _ g ∙ L .away _ i r _ d ∙ L .away _ (used + 1) r _ b ∙ L .away s used r _ a
+    rest-at r a b d g = L .away _ (e .partner) r _ g ∙ L .away _ i r _ d ∙ L .away-enter _ (used + 1) r _ b ∙ L .away-enter s used r _ a
 
 -- the two ends read from the store itself
 module _ {P S : Type 0} {K : Store P S} (L : Stored K) (s : S) (used i : ℕ) (c : P) (keep : Bool) where

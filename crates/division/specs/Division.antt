@@ -73,11 +73,11 @@ module _ {P S : Type 0} (K : Store P S) where
   unfoldable pub full : S → ℕ → Bool
   full s used = leb (min (K .size s) numbers) (used + 1)
 
-  -- the four records of the segment whose ends are e, at i, and f
+  -- the four records of the segment whose ends are e, at i, and f: two new ones, and the ends, each over its own
   unfoldable pub parted : S → ℕ → ℕ → Event P → Event P → P → Bool → S
   parted s used i e f c keep =
-      let right = K .store s used (newEnd e c false i) in
-      let left = K .store right (used + 1) (newEnd e c keep (e .partner)) in
+      let right = K .enter s used (newEnd e c false i) in
+      let left = K .enter right (used + 1) (newEnd e c keep (e .partner)) in
       let own = K .store left i (linked e used (e .left)) in
       K .store own (e .partner) (linked f (used + 1) (cond keep (f .left) true))
 

@@ -19,6 +19,7 @@ use crate::ends::keeps;
 use crate::ends::new_end;
 use crate::ends::relinked;
 use events::Event;
+use events::pool::enter_event;
 use events::pool::read_used;
 use events::pool::store_event;
 use numbers::Coordinate;
@@ -83,8 +84,8 @@ fn part(
     requires { ⌜ used + 1 < numbers ⌝ }
     ensures { λ _. ⌜ pool (now (points .exit)) (now (marks .exit)) ≡ parted stored (pool (now (points .entry)) (now (marks .entry))) used i (shown e) (shown f) c keep ⌝ }
 {
-    store_event(points, marks, used, new_end(e, c, false, i));
-    store_event(points, marks, used + 1, new_end(e, c, keep, e.partner));
+    enter_event(points, marks, used, new_end(e, c, false, i));
+    enter_event(points, marks, used + 1, new_end(e, c, keep, e.partner));
     store_event(points, marks, i, relinked(e, used, e.left));
     store_event(
         points,

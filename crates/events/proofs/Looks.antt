@@ -1,4 +1,4 @@
--- What is read of a store of which the first places are in use: in them, beyond them, and after storing a record.
+-- What is read of a store of which the first places are in use: in them, beyond them, and after writing a record.
 use mathlib.Core.Path.{_≡_, refl, ap, _∙_}
 use mathlib.Core.Logic.{_⊎_, inl, inr}
 use mathlib.Core.Bool.{Bool, true, false, cond, _&&_}
@@ -37,7 +37,7 @@ module _ {P S : Type 0} (K : Store P S) (s : S) (used r : ℕ) where
       go true e = inl (ltb-true r used e)
       go false e = inr (look-out (ltb-false r used e))
 
--- ---- after storing
+-- ---- after writing
 
 module _ {P S : Type 0} {K : Store P S} (st : Stored K) (s : S) (e : Event P) (j : ℕ) where
   pub look-store : (used i : ℕ) → used ≤ K .size s → look K (K .store s i e) used j ≡ cond (eqb j i && ltb i used) e (look K s used j)
@@ -57,19 +57,19 @@ module _ {P S : Type 0} {K : Store P S} (st : Stored K) (s : S) (e : Event P) (j
           let l : used ≤ j = ltb-false j used q in
           rw (le-ltb i used (omega arith))
 
-  -- one place more in use, and the record stored there
-  pub look-more : (used : ℕ) → used < K .size s → look K (K .store s used e) (used + 1) j ≡ cond (eqb j used) e (look K s used j)
+  -- one place more in use, and the record entered there
+  pub look-more : (used : ℕ) → used < K .size s → look K (K .enter s used e) (used + 1) j ≡ cond (eqb j used) e (look K s used j)
   unfolding look
   look-more used h = go (eqb j used) refl
     where
-      near : (j ≡ used → ⊥) → (z : Bool) → ltb j used ≡ z → cond (ltb j (used + 1)) (K .rowAt (K .store s used e) j) (K .blank j) ≡ cond z (K .rowAt s j) (K .blank j)
+      near : (j ≡ used → ⊥) → (z : Bool) → ltb j used ≡ z → cond (ltb j (used + 1)) (K .rowAt (K .enter s used e) j) (K .blank j) ≡ cond z (K .rowAt s j) (K .blank j)
       near d true t =
           let k : j < used = ltb-true j used t in
-          rw (lt-ltb j (used + 1) (omega arith)) (st .away s used j e d)
+          rw (lt-ltb j (used + 1) (omega arith)) (st .away-enter s used j e d)
       near d false t =
           let k : used ≤ j = ltb-false j used t in
           rw (le-ltb j (used + 1) (omega arith))
 
-      go : (x : Bool) → eqb j used ≡ x → cond (ltb j (used + 1)) (K .rowAt (K .store s used e) j) (K .blank j) ≡ cond x e (cond (ltb j used) (K .rowAt s j) (K .blank j))
-      go true p = let m : j ≡ used = eqb-true j used p in rw (lt-ltb j (used + 1) (omega arith)) (ap (K .rowAt (K .store s used e)) m ∙ st .here s used e h)
+      go : (x : Bool) → eqb j used ≡ x → cond (ltb j (used + 1)) (K .rowAt (K .enter s used e) j) (K .blank j) ≡ cond x e (cond (ltb j used) (K .rowAt s j) (K .blank j))
+      go true p = let m : j ≡ used = eqb-true j used p in rw (lt-ltb j (used + 1) (omega arith)) (ap (K .rowAt (K .enter s used e)) m ∙ st .here-enter s used e h)
       go false p = near (eqb-false j used p) (ltb j used) refl

@@ -1,4 +1,4 @@
--- Reading after storing: a record survives its two rows, and a store touches no other number and no size.
+-- Reading after writing: a record survives its two rows, new or over lent marks, and a write touches no other number and no size.
 use mathlib.Core.Path.{_≡_, refl, sym, ap, _∙_}
 use mathlib.Core.Logic.{_≢_}
 use mathlib.Core.Bool.{Bool, true, false, cond}
@@ -18,59 +18,57 @@ use Rattle.events.specs.declared.Link.{Link}
 use Rattle.events.specs.declared.Link.the-variants.{None, To}
 use Rattle.events.specs.Event.{Event}
 use Rattle.events.specs.Store.{Store}
-use Rattle.events.specs.Pool.{Pool, size, flagNumber, linkOf, thereNumber, linkNumber, edgeTypeOf, edgeTypeNumber, transitionOf, transitionNumber, eventOf, pointOf, marksOf, rowAt, store, stored}
-
-pub flag : (b : Bool) → eqb (flagNumber b) 1 ≡ b
-unfolding flagNumber
-flag true = refl
-flag false = refl
-
-link : (l : Link) → linkOf (thereNumber l) (linkNumber l) ≡ l
-unfolding linkOf thereNumber linkNumber
-link None = refl
-link (To n) = refl
-
-edgeType : (t : EdgeType) → edgeTypeOf (edgeTypeNumber t) ≡ t
-unfolding edgeTypeOf edgeTypeNumber
-edgeType Normal = refl
-edgeType NonContributing = refl
-edgeType SameTransition = refl
-edgeType DifferentTransition = refl
-
-transition : (t : ResultTransition) → transitionOf (transitionNumber t) ≡ t
-unfolding transitionOf transitionNumber
-transition NoTransition = refl
-transition InOut = refl
-transition OutIn = refl
+use Rattle.events.proofs.Codes.{flag, link, edgeType, transition}
+use Rattle.events.proofs.Over.{over-says, link-says}
+use Rattle.events.specs.Pool.{Pool, size, flagOf, flagNumber, linkOf, thereNumber, linkNumber, edgeTypeOf, edgeTypeNumber, transitionOf, transitionNumber, eventOf, pointOf, marksOf, marksOver, rowAt, written, enter, store, stored}
 
 -- no two records share their rows
 pub back : (e : Event Coordinate) → eventOf (pointOf e) (marksOf e) ≡ e
 unfolding eventOf pointOf marksOf
 back e = rw (flag (e .left), flag (e .subject), flag (e .inOut), flag (e .otherInOut), link (e .below), link (e .contour), edgeType (e .edgeType), transition (e .transition))
 
-pub size-store : (p : Pool) (i : ℕ) (e : Event Coordinate) → size (store p i e) ≡ size p
-unfolding size store
-size-store p i e = rw (length-set (p .points) i (pointOf e), length-set (p .marks) i (marksOf e))
-
-pub here : (p : Pool) (i : ℕ) (e : Event Coordinate) → i < size p → rowAt (store p i e) i ≡ e
-unfolding rowAt store size
-here p i e h =
+-- .. nor over lent marks
+pub back-over : (m : List ℕ) (e : Event Coordinate) → eventOf (pointOf e) (marksOver m e) ≡ e
+unfolding eventOf pointOf marksOver
+back-over m e =
     rw
-    (length-set (p .points) i (pointOf e), length-set (p .marks) i (marksOf e), lt-ltb i (length (p .points)) (omega arith), lt-ltb i (length (p .marks)) (omega arith), getD-set-same (p .points) i (pointOf e) [] (omega arith), getD-set-same (p .marks) i (marksOf e) [] (omega arith))
-    (back e)
+    (over-says flagOf flagNumber flag (getD m 0 0) (e .left), over-says flagOf flagNumber flag (getD m 1 0) (e .subject), over-says flagOf flagNumber flag (getD m 8 0) (e .inOut), over-says flagOf flagNumber flag (getD m 9 0) (e .otherInOut), link-says (getD m 4 0) (getD m 5 0) (e .below), link-says (getD m 10 0) (getD m 11 0) (e .contour), over-says edgeTypeOf edgeTypeNumber edgeType (getD m 6 0) (e .edgeType), over-says transitionOf transitionNumber transition (getD m 7 0) (e .transition))
 
-pub away : (p : Pool) (i j : ℕ) (e : Event Coordinate) → j ≢ i → rowAt (store p i e) j ≡ rowAt p j
-unfolding rowAt store
-away p i j e h =
-    rw
-    (length-set (p .points) i (pointOf e), length-set (p .marks) i (marksOf e), getD-set-other (p .points) i j (pointOf e) [] h, getD-set-other (p .marks) i j (marksOf e) [] h)
+-- ---- a record written with any marks for it
+
+module _ (p : Pool) (i : ℕ) (e : Event Coordinate) (m : List ℕ) where
+  size-written : size (written p i e m) ≡ size p
+  unfolding size
+  size-written = rw (length-set (p .points) i (pointOf e), length-set (p .marks) i m)
+
+  here-written : eventOf (pointOf e) m ≡ e → i < size p → rowAt (written p i e m) i ≡ e
+  unfolding rowAt size
+  here-written b h =
+      rw
+      (length-set (p .points) i (pointOf e), length-set (p .marks) i m, lt-ltb i (length (p .points)) (omega arith), lt-ltb i (length (p .marks)) (omega arith), getD-set-same (p .points) i (pointOf e) [] (omega arith), getD-set-same (p .marks) i m [] (omega arith))
+      b
+
+  away-written : (j : ℕ) → j ≢ i → rowAt (written p i e m) j ≡ rowAt p j
+  unfolding rowAt
+  away-written j h = rw (length-set (p .points) i (pointOf e), length-set (p .marks) i m, getD-set-other (p .points) i j (pointOf e) [] h, getD-set-other (p .marks) i j m [] h)
 
 -- what every store of records owes: the pool is one
 pub record Stored {P S : Type 0} (K : Store P S) : Type 0 where
+  pub size-enter : (s : S) (i : ℕ) (e : Event P) → K .size (K .enter s i e) ≡ K .size s
+  pub here-enter : (s : S) (i : ℕ) (e : Event P) → i < K .size s → K .rowAt (K .enter s i e) i ≡ e
+  pub away-enter : (s : S) (i j : ℕ) (e : Event P) → j ≢ i → K .rowAt (K .enter s i e) j ≡ K .rowAt s j
   pub size-store : (s : S) (i : ℕ) (e : Event P) → K .size (K .store s i e) ≡ K .size s
   pub here : (s : S) (i : ℕ) (e : Event P) → i < K .size s → K .rowAt (K .store s i e) i ≡ e
   pub away : (s : S) (i j : ℕ) (e : Event P) → j ≢ i → K .rowAt (K .store s i e) j ≡ K .rowAt s j
 
 pub pool-stored : Stored stored
-unfolding stored
-pool-stored = record { size-store = size-store; here = here; away = away }
+unfolding stored enter store
+pool-stored =
+    record {
+      size-enter = λ p i e. size-written p i e (marksOf e);
+      here-enter = λ p i e. here-written p i e (marksOf e) (back e);
+      away-enter = λ p i j e. away-written p i e (marksOf e) j;
+      size-store = λ p i e. size-written p i e (marksOver (getD (p .marks) i []) e);
+      here = λ p i e. here-written p i e (marksOver (getD (p .marks) i []) e) (back-over (getD (p .marks) i []) e);
+      away = λ p i j e. away-written p i e (marksOver (getD (p .marks) i []) e) j;
+    }

@@ -27,7 +27,17 @@ pool p m = record { points = p; marks = m }
 unfoldable pub size : Pool → ℕ
 size p = min (length (p .points)) (length (p .marks))
 
+-- the raw number in mark k of record r, and coordinate k
+abbrev pub markAt : Pool → ℕ → ℕ → ℕ
+markAt p r k = getD (getD (p .marks) r []) k 0
+
+abbrev pub numberAt : Pool → ℕ → ℕ → Float
+numberAt p r k = getD (getD (p .points) r []) k nan
+
 -- ---- numbers for what a record holds
+
+abbrev pub flagOf : ℕ → Bool
+flagOf n = eqb n 1
 
 unfoldable pub flagNumber : Bool → ℕ
 flagNumber b = cond b 1 0
@@ -61,21 +71,27 @@ transitionNumber NoTransition = 0
 transitionNumber InOut = 1
 transitionNumber OutIn = 2
 
+unfoldable pub sameLink : Link → Link → Bool
+sameLink None None = true
+sameLink None (To b) = false
+sameLink (To a) None = false
+sameLink (To a) (To b) = eqb a b
+
 -- ---- a record in its two rows
 
 unfoldable pub eventOf : List Float → List ℕ → Event Coordinate
 eventOf q m =
     record {
       point = record { x = getD q 0 nan; y = getD q 1 nan };
-      left = eqb (getD m 0 0) 1;
-      subject = eqb (getD m 1 0) 1;
+      left = flagOf (getD m 0 0);
+      subject = flagOf (getD m 1 0);
       ring = getD m 2 0;
       partner = getD m 3 0;
       below = linkOf (getD m 4 0) (getD m 5 0);
       edgeType = edgeTypeOf (getD m 6 0);
       transition = transitionOf (getD m 7 0);
-      inOut = eqb (getD m 8 0) 1;
-      otherInOut = eqb (getD m 9 0) 1;
+      inOut = flagOf (getD m 8 0);
+      otherInOut = flagOf (getD m 9 0);
       contour = linkOf (getD m 10 0) (getD m 11 0);
     }
 
@@ -98,6 +114,34 @@ marksOf e =
     ∷ linkNumber (e .contour)
     ∷ []
 
+-- ---- the marks of a record that is there already: one that says what it should stays as lent, whatever its number
+
+unfoldable pub over : {A : Type 0} → (ℕ → A) → (A → ℕ) → ℕ → A → ℕ
+over says number m a = cond (eqb (number (says m)) (number a)) m (number a)
+
+-- the two of a link stay or change together
+unfoldable pub thereOver : ℕ → ℕ → Link → ℕ
+thereOver there n l = cond (sameLink (linkOf there n) l) there (thereNumber l)
+
+unfoldable pub linkOver : ℕ → ℕ → Link → ℕ
+linkOver there n l = cond (sameLink (linkOf there n) l) n (linkNumber l)
+
+unfoldable pub marksOver : List ℕ → Event Coordinate → List ℕ
+marksOver m e =
+    over flagOf flagNumber (getD m 0 0) (e .left)
+    ∷ over flagOf flagNumber (getD m 1 0) (e .subject)
+    ∷ e .ring
+    ∷ e .partner
+    ∷ thereOver (getD m 4 0) (getD m 5 0) (e .below)
+    ∷ linkOver (getD m 4 0) (getD m 5 0) (e .below)
+    ∷ over edgeTypeOf edgeTypeNumber (getD m 6 0) (e .edgeType)
+    ∷ over transitionOf transitionNumber (getD m 7 0) (e .transition)
+    ∷ over flagOf flagNumber (getD m 8 0) (e .inOut)
+    ∷ over flagOf flagNumber (getD m 9 0) (e .otherInOut)
+    ∷ thereOver (getD m 10 0) (getD m 11 0) (e .contour)
+    ∷ linkOver (getD m 10 0) (getD m 11 0) (e .contour)
+    ∷ []
+
 -- what is read outside the pool: its own partner, so that it means the same under every numbering
 unfoldable pub blank : ℕ → Event Coordinate
 blank i = fresh (record { x = B.zero; y = B.zero }) false false 0 i
@@ -110,9 +154,16 @@ rowAt p i =
     (cond (ltb i (length (p .marks))) (eventOf (getD (p .points) i []) (getD (p .marks) i [])) (blank i))
     (blank i)
 
+-- a record with these marks for it, in its two rows
+abbrev pub written : Pool → ℕ → Event Coordinate → List ℕ → Pool
+written p i e m = record { points = set (p .points) i (pointOf e); marks = set (p .marks) i m }
+
+unfoldable pub enter : Pool → ℕ → Event Coordinate → Pool
+enter p i e = written p i e (marksOf e)
+
 unfoldable pub store : Pool → ℕ → Event Coordinate → Pool
-store p i e = record { points = set (p .points) i (pointOf e); marks = set (p .marks) i (marksOf e) }
+store p i e = written p i e (marksOver (getD (p .marks) i []) e)
 
 -- the pool as a store of records
 unfoldable pub stored : Store Coordinate Pool
-stored = record { size = size; rowAt = rowAt; store = store; blank = blank }
+stored = record { size = size; rowAt = rowAt; enter = enter; store = store; blank = blank }

@@ -8,6 +8,9 @@ use Rattle.events.specs.Event.{Event}
 pub record Store (P S : Type 0) : Type 0 where
   pub size : S → ℕ
   pub rowAt : S → ℕ → Event P
+  -- a new record, written whole
+  pub enter : S → ℕ → Event P → S
+  -- a record that is there already, in what it now says otherwise
   pub store : S → ℕ → Event P → S
   -- what is read where there is no record
   pub blank : ℕ → Event P

@@ -1,9 +1,10 @@
 // The pool: event records in two arrays that the caller lends, read and stored by number.
-// Outside the pool a read gives a blank record, its own partner, and a store changes nothing: every number has an answer.
+// Outside the pool a read gives a blank record, its own partner, and nothing is written: every number has an answer.
 ghost use mathlib.Core.Path.{_≡_};
-ghost use lib.ListN.{set};
+ghost use mathlib.Core.List.{[]};
+ghost use lib.ListN.{getD, set};
 ghost use Rattle.events.specs.Event.{shown};
-ghost use Rattle.events.specs.Pool.{pool, rowAt, store, eventOf, pointOf, marksOf, flagNumber, linkOf, thereNumber, linkNumber, edgeTypeOf, edgeTypeNumber, transitionOf, transitionNumber, blank, stored};
+ghost use Rattle.events.specs.Pool.{pool, rowAt, enter, store, eventOf, pointOf, marksOf, over, thereOver, linkOver, marksOver, flagOf, flagNumber, sameLink, linkOf, thereNumber, linkNumber, edgeTypeOf, edgeTypeNumber, transitionOf, transitionNumber, blank, stored};
 ghost use Rattle.events.specs.Store.{look};
 use crate::EdgeType;
 use crate::Event;
@@ -43,6 +44,21 @@ fn number_of_link(l: Link) -> u32
     match l {
         Link::None => 0,
         Link::To(n) => n,
+    }
+}
+
+fn same_link(a: Link, b: Link) -> bool
+    ensures { λ r. ⌜ r ≡ sameLink a b ⌝ }
+{
+    match a {
+        Link::None => match b {
+            Link::None => true,
+            Link::To(_) => false,
+        },
+        Link::To(m) => match b {
+            Link::None => false,
+            Link::To(n) => m == n,
+        },
     }
 }
 
@@ -163,6 +179,80 @@ pub fn marks_of(e: Event) -> [u32; 12]
     ]
 }
 
+// ---- marks over lent ones: a mark that says what it should stays
+
+fn flag_over(m: u32, b: bool) -> u32
+    ensures { λ r. ⌜ r ≡ over flagOf flagNumber m b ⌝ }
+{
+    let n = number_of_flag(b);
+    if number_of_flag(m == 1) == n {
+        return m;
+    }
+    n
+}
+
+fn edge_type_over(m: u32, t: EdgeType) -> u32
+    ensures { λ r. ⌜ r ≡ over edgeTypeOf edgeTypeNumber m t ⌝ }
+{
+    let n = number_of_edge_type(t);
+    if number_of_edge_type(edge_type_of(m)) == n {
+        return m;
+    }
+    n
+}
+
+fn transition_over(m: u32, t: ResultTransition) -> u32
+    ensures { λ r. ⌜ r ≡ over transitionOf transitionNumber m t ⌝ }
+{
+    let n = number_of_transition(t);
+    if number_of_transition(transition_of(m)) == n {
+        return m;
+    }
+    n
+}
+
+// The two marks of a link stay or change together.
+fn there_over(there: u32, n: u32, l: Link) -> u32
+    ensures { λ r. ⌜ r ≡ thereOver there n l ⌝ }
+{
+    if same_link(link_of(there, n), l) {
+        return there;
+    }
+    number_of_there(l)
+}
+
+fn link_over(there: u32, n: u32, l: Link) -> u32
+    ensures { λ r. ⌜ r ≡ linkOver there n l ⌝ }
+{
+    if same_link(link_of(there, n), l) {
+        return n;
+    }
+    number_of_link(l)
+}
+
+pub fn marks_over(m: [u32; 12], e: Event) -> [u32; 12]
+    ensures { λ r. ⌜ r ≡ marksOver m (shown e) ⌝ }
+{
+    let below = e.below;
+    let edge_type = e.edge_type;
+    let transition = e.transition;
+    let contour = e.contour;
+    [
+        flag_over(m[0], e.left),
+        flag_over(m[1], e.subject),
+        e.ring,
+        e.partner,
+        there_over(m[4], m[5], below),
+        link_over(m[4], m[5], below),
+        edge_type_over(m[6], edge_type),
+        transition_over(m[7], transition),
+        flag_over(m[8], e.in_out),
+        flag_over(m[9], e.other_in_out),
+        there_over(m[10], m[11], contour),
+        link_over(m[10], m[11], contour),
+    ]
+}
+
 fn put_point(points: &mut [[f64; 2]], at: usize, p: [f64; 2])
     ensures { λ _. ⌜ now (points .exit) ≡ set (now (points .entry)) at p ⌝ }
 {
@@ -179,10 +269,28 @@ fn put_marks(marks: &mut [[u32; 12]], at: usize, m: [u32; 12])
     }
 }
 
+fn put_marks_over(marks: &mut [[u32; 12]], at: usize, e: Event)
+    ensures { λ _. ⌜ now (marks .exit) ≡ set (now (marks .entry)) at (marksOver (getD (now (marks .entry)) at []) (shown e)) ⌝ }
+{
+    if at < marks.len() {
+        marks[at] = marks_over(marks[at], e);
+    }
+}
+
+// A new record, written whole.
+pub fn enter_event(points: &mut [[f64; 2]], marks: &mut [[u32; 12]], i: u32, e: Event)
+    ensures { λ _. ⌜ pool (now (points .exit)) (now (marks .exit)) ≡ enter (pool (now (points .entry)) (now (marks .entry))) i (shown e) ⌝ }
+{
+    let at = i as usize;
+    put_point(points, at, point_of(e));
+    put_marks(marks, at, marks_of(e));
+}
+
+// A record that is there already: a mark that says what it should stays as lent.
 pub fn store_event(points: &mut [[f64; 2]], marks: &mut [[u32; 12]], i: u32, e: Event)
     ensures { λ _. ⌜ pool (now (points .exit)) (now (marks .exit)) ≡ store (pool (now (points .entry)) (now (marks .entry))) i (shown e) ⌝ }
 {
     let at = i as usize;
     put_point(points, at, point_of(e));
-    put_marks(marks, at, marks_of(e));
+    put_marks_over(marks, at, e);
 }

@@ -9,14 +9,14 @@ use Rattle.events.specs.Coordinates.{Coordinates}
 use Rattle.events.specs.Event.{Event}
 use Rattle.events.specs.Store.{Store}
 use Rattle.events.specs.Binary64.{binary64}
-use Rattle.events.specs.Pool.{Pool, pointOf, marksOf, store, stored}
+use Rattle.events.specs.Pool.{Pool, pointOf, marksOf, enter, stored}
 use Rattle.checks.specs.declared.Check.{Check}
 use Rattle.checks.specs.declared.Check.the-variants.{Passed, Refused}
 use Rattle.loading.specs.Loading.{Edge, loadedEdge, loaded}
 use Rattle.loading.specs.OnPool.{edgesOf, accept, afterChecks, load}
 
--- what no store changes, no loading does
-kept-loaded : {P S A : Type 0} (C : Coordinates P) (K : Store P S) (f : S → A) → ((s : S) (i : ℕ) (e : Event P) → f (K .store s i e) ≡ f s)
+-- what no new record changes, no loading does
+kept-loaded : {P S A : Type 0} (C : Coordinates P) (K : Store P S) (f : S → A) → ((s : S) (i : ℕ) (e : Event P) → f (K .enter s i e) ≡ f s)
     → (s : S) (i : ℕ) (l : List (Edge P)) → f (loaded C K s i l) ≡ f s
 unfolding loaded loadedEdge
 kept-loaded C K f h s i [] = refl
@@ -24,11 +24,11 @@ kept-loaded C K f h s i (e ∷ l) = kept-loaded C K f h (loadedEdge C K s i e) (
 
 module _ (p : Pool) (i : ℕ) (l : List (Edge Coordinate)) where
   pub points-loaded : length (loaded binary64 stored p i l .points) ≡ length (p .points)
-  unfolding stored store
+  unfolding stored enter
   points-loaded = kept-loaded binary64 stored (λ q. length (q .points)) (λ q i e. length-set (q .points) i (pointOf e)) p i l
 
   pub marks-loaded : length (loaded binary64 stored p i l .marks) ≡ length (p .marks)
-  unfolding stored store
+  unfolding stored enter
   marks-loaded = kept-loaded binary64 stored (λ q. length (q .marks)) (λ q i e. length-set (q .marks) i (marksOf e)) p i l
 
 -- refused or not

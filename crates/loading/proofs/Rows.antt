@@ -18,22 +18,22 @@ pub data Rows {P : Type 0} (C : Coordinates P) (row : ℕ → Event P) : ℕ →
 module _ {P S : Type 0} (C : Coordinates P) {K : Store P S} (laws : Stored K) where
   sized : (s : S) (i : ℕ) (e : Edge P) → K .size (loadedEdge C K s i e) ≡ K .size s
   unfolding loadedEdge
-  sized s i e = laws .size-store _ (2 * i + 1) (secondEnd C i e) ∙ laws .size-store s (2 * i) (firstEnd C i e)
+  sized s i e = laws .size-enter _ (2 * i + 1) (secondEnd C i e) ∙ laws .size-enter s (2 * i) (firstEnd C i e)
 
   -- one edge
   first : (s : S) (i : ℕ) (e : Edge P) → 2 * i < K .size s → K .rowAt (loadedEdge C K s i e) (2 * i) ≡ firstEnd C i e
   unfolding loadedEdge
-  first s i e h = laws .away _ (2 * i + 1) (2 * i) (secondEnd C i e) (λ q. omega arith) ∙ laws .here s (2 * i) (firstEnd C i e) h
+  first s i e h = laws .away-enter _ (2 * i + 1) (2 * i) (secondEnd C i e) (λ q. omega arith) ∙ laws .here-enter s (2 * i) (firstEnd C i e) h
 
   second : (s : S) (i : ℕ) (e : Edge P) → 2 * i + 1 < K .size s → K .rowAt (loadedEdge C K s i e) (2 * i + 1) ≡ secondEnd C i e
   unfolding loadedEdge
   second s i e h =
-      let q = laws .size-store s (2 * i) (firstEnd C i e) in
-      laws .here _ (2 * i + 1) (secondEnd C i e) (omega (arith, q))
+      let q = laws .size-enter s (2 * i) (firstEnd C i e) in
+      laws .here-enter _ (2 * i + 1) (secondEnd C i e) (omega (arith, q))
 
   other : (s : S) (i : ℕ) (e : Edge P) (r : ℕ) → (r ≡ 2 * i → ⊥) → (r ≡ 2 * i + 1 → ⊥) → K .rowAt (loadedEdge C K s i e) r ≡ K .rowAt s r
   unfolding loadedEdge
-  other s i e r h k = laws .away _ (2 * i + 1) r (secondEnd C i e) k ∙ laws .away s (2 * i) r (firstEnd C i e) h
+  other s i e r h k = laws .away-enter _ (2 * i + 1) r (secondEnd C i e) k ∙ laws .away-enter s (2 * i) r (firstEnd C i e) h
 
   -- the places below the first edge, and beyond the last, stay as lent
   pub below : (l : List (Edge P)) (s : S) (i r : ℕ) → r < 2 * i → K .rowAt (loaded C K s i l) r ≡ K .rowAt s r

@@ -12,7 +12,7 @@ use Rattle.events.specs.Coordinates.{Coordinates, ahead}
 use Rattle.events.specs.Binary64.{binary64}
 use Rattle.events.specs.Event.{Event}
 use Rattle.events.specs.Store.{Store}
-use Rattle.events.specs.Pool.{Pool, store, stored}
+use Rattle.events.specs.Pool.{Pool, enter, stored}
 use Rattle.checks.specs.declared.Check.{Check}
 use Rattle.checks.specs.declared.Check.the-variants.{Passed, Refused}
 use Rattle.checks.specs.Checks.{andThen}
@@ -55,9 +55,9 @@ module _ {P : Type 0} (C : Coordinates P) (l : List (Edge P)) where
 pub both-ends : (p q r : Pool) (i : ℕ) (e : Edge Coordinate) {left : Bool} {a b : Event Coordinate}
     → left ≡ ahead binary64 (e .from) (e .to)
     → a ≡ end e (e .from) left (2 * i + 1)
-    → q ≡ store p (2 * i) a
+    → q ≡ enter p (2 * i) a
     → b ≡ end e (e .to) (not left) (2 * i)
-    → r ≡ store q (2 * i + 1) b
+    → r ≡ enter q (2 * i + 1) b
     → r ≡ loadedEdge binary64 stored p i e
 unfolding loadedEdge firstEnd secondEnd stored
 both-ends p q r i e l f s g t = rw (t, s, g, f, l)

@@ -32,7 +32,7 @@ module _ {P : Type 0} where
 
     module _ {S : Type 0} (K : Store P S) where
       unfoldable pub loadedEdge : S → ℕ → Edge P → S
-      loadedEdge s i e = K .store (K .store s (2 * i) (firstEnd i e)) (2 * i + 1) (secondEnd i e)
+      loadedEdge s i e = K .enter (K .enter s (2 * i) (firstEnd i e)) (2 * i + 1) (secondEnd i e)
 
       -- the edges l, which are those from i on; the other places stay as lent
       unfoldable pub loaded : S → ℕ → List (Edge P) → S

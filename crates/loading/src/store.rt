@@ -14,7 +14,7 @@ use crate::edge::read_edge;
 use checks::records::is_ahead;
 use events::Event;
 use events::fresh_event;
-use events::pool::store_event;
+use events::pool::enter_event;
 use numbers::Coordinate;
 
 // An end of the edge.
@@ -33,8 +33,8 @@ fn load_edge(points: &mut [[f64; 2]], marks: &mut [[u32; 12]], i: u32, e: Edge)
     let first = 2 * i;
     let second = first + 1;
     let left = is_ahead(from, to);
-    store_event(points, marks, first, end(e, from, left, second));
-    store_event(points, marks, second, end(e, to, !left, first));
+    enter_event(points, marks, first, end(e, from, left, second));
+    enter_event(points, marks, second, end(e, to, !left, first));
 }
 
 // All edges; the answer is how many places are in use.

@@ -1,4 +1,4 @@
--- Four stores, each of a record that is the definition's.
+-- Two records entered and two stored, each the definition's.
 use borrow.Author.Needs.{needs}
 use mathlib.Core.Path.{_≡_, ap, _∙_}
 use mathlib.Core.Bool.{Bool, true, false, cond}
@@ -6,7 +6,7 @@ use Prim.Native.Nat.{ℕ, _+_}
 use native.Mathlib.Omega.{arith}
 use Rattle.numbers.specs.declared.Coordinate.{Coordinate}
 use Rattle.events.specs.Event.{Event, shown}
-use Rattle.events.specs.Pool.{Pool, store, stored}
+use Rattle.events.specs.Pool.{Pool, enter, store, stored}
 use Rattle.division.specs.Division.{newEnd, linked, parted}
 use Rattle.division.proofs.part.Statement.{statement}
 use Rattle.division.proofs.part.Tie as tie
@@ -16,8 +16,8 @@ chain : (s s1 s2 s3 s4 : Pool) (used i : ℕ) (e f right left own other : Event 
     → left ≡ newEnd e c keep (e .partner)
     → own ≡ linked e used (e .left)
     → other ≡ linked f (used + 1) (cond keep (f .left) true)
-    → s1 ≡ store s used right
-    → s2 ≡ store s1 (used + 1) left
+    → s1 ≡ enter s used right
+    → s2 ≡ enter s1 (used + 1) left
     → s3 ≡ store s2 i own
     → s4 ≡ store s3 (e .partner) other
     → s4 ≡ parted stored s used i e f c keep
@@ -37,7 +37,7 @@ same-length c =
     let third = fourth .before .before .before .before .before .before .before in
     let second = third .before .before .before .before .before .before in
     let first = second .before .before .before .before .before .before in
-    omega (arith, fourth .store-event4 .kept .0, third .store-event3 .kept .0, second .store-event2 .kept .0, first .store-event .kept .0)
+    omega (arith, fourth .store-event2 .kept .0, third .store-event .kept .0, second .enter-event2 .kept .0, first .enter-event .kept .0)
 
 same-length-2 : tie.Need-same-length-2
 same-length-2 c =
@@ -45,7 +45,7 @@ same-length-2 c =
     let third = fourth .before .before .before .before .before .before .before in
     let second = third .before .before .before .before .before .before in
     let first = second .before .before .before .before .before .before in
-    omega (arith, fourth .store-event4 .kept .1, third .store-event3 .kept .1, second .store-event2 .kept .1, first .store-event .kept .1)
+    omega (arith, fourth .store-event2 .kept .1, third .store-event .kept .1, second .enter-event2 .kept .1, first .enter-event .kept .1)
 
 returns : tie.Need-returns
 unfolding linked
@@ -60,10 +60,10 @@ returns c =
     (second .before .new-end2 .ensures)
     (ap shown (third .before .relinked .ensures))
     (ap shown (fourth .before .relinked2 .ensures) ∙ rw flag)
-    (first .store-event .ensures)
-    (second .store-event2 .ensures)
-    (third .store-event3 .ensures)
-    (fourth .store-event4 .ensures)
+    (first .enter-event .ensures)
+    (second .enter-event2 .ensures)
+    (third .store-event .ensures)
+    (fourth .store-event2 .ensures)
 
 pub part-spec : {M : Type 1} → statement M
 part-spec =

@@ -18,9 +18,9 @@ returns c =
     _
     (ahead .is-ahead .ensures)
     (first .before .end .ensures)
-    (first .store-event .ensures)
+    (first .enter-event .ensures)
     (second .before .end2 .ensures)
-    (second .store-event2 .ensures)
+    (second .enter-event2 .ensures)
 
 pub load-edge-spec : {M : Type 1} → statement M
 load-edge-spec =
