@@ -56,7 +56,7 @@ blank i = end (spot 0 0) false i None NoTransition
 
 events : Store Spot (List (Event Spot))
 unfolding blank
-events = record { size = length; rowAt = λ s i. getD s i (blank i); store = set; blank = blank }
+events = record { size = length; rowAt = λ s i. getD s i (blank i); enter = set; store = set; blank = blank }
 
 -- what is told: the number of the refusal or 0, and for each contour its corners, parent, depth, holes and whether it is open
 record Shown : Type 0 where

@@ -1,53 +1,26 @@
 -- The pool after contour numbers are written: every record has its own and is otherwise as it was.
 use mathlib.Core.Path.{_≡_, refl, ap, _∙_}
 use mathlib.Core.Logic.{_≢_}
-use mathlib.Core.Bool.{Bool, true, false, cond, false≢true}
 use Prim.Native.Nat.{ℕ, zero, suc, _<_, _≤_}
 use native.Mathlib.Omega.{arith}
 use native.Mathlib.Decide.{ℕ-discrete}
-use borrow.Author.Tests.{eqb-true}
 use Rattle.events.specs.declared.Link.{Link}
-use Rattle.events.specs.declared.Link.the-variants.{None, To}
-use Rattle.events.specs.Event.{Event}
 use Rattle.events.specs.Store.{Store}
 use Rattle.events.proofs.Stored.{Stored}
-use Rattle.contours.specs.Connect.{sameLink, withContour, settle, settled}
-
-same-link : (a b : Link) → sameLink a b ≡ true → a ≡ b
-unfolding sameLink
-same-link None None e = refl
-same-link None (To b) e = absurd (false≢true e)
-same-link (To a) None e = absurd (false≢true e)
-same-link (To a) (To b) e = ap To (eqb-true a b e)
-
-with-own : {P : Type 0} (l : Link) (e : Event P) → e .contour ≡ l → e ≡ withContour l e
-unfolding withContour
-with-own l e q = ap (λ (k : Link). withContour k e) q
+use Rattle.contours.specs.Connect.{withContour, settle, settled}
 
 module _ {P S : Type 0} (K : Store P S) (stored : Stored K) where
   settle-size : (s : S) (r : ℕ) (l : Link) → K .size (settle K s r l) ≡ K .size s
   unfolding settle
-  settle-size s r l = go (sameLink (K .rowAt s r .contour) l)
-    where
-      go : (b : Bool) → K .size (cond b s (K .store s r (withContour l (K .rowAt s r)))) ≡ K .size s
-      go true = refl
-      go false = stored .size-store s r (withContour l (K .rowAt s r))
+  settle-size s r l = stored .size-store s r (withContour l (K .rowAt s r))
 
   settle-here : (s : S) (r : ℕ) (l : Link) → r < K .size s → K .rowAt (settle K s r l) r ≡ withContour l (K .rowAt s r)
   unfolding settle
-  settle-here s r l h = go (sameLink (K .rowAt s r .contour) l) refl
-    where
-      go : (b : Bool) → sameLink (K .rowAt s r .contour) l ≡ b → K .rowAt (cond b s (K .store s r (withContour l (K .rowAt s r)))) r ≡ withContour l (K .rowAt s r)
-      go true e = with-own l (K .rowAt s r) (same-link (K .rowAt s r .contour) l e)
-      go false e = stored .here s r (withContour l (K .rowAt s r)) h
+  settle-here s r l h = stored .here s r (withContour l (K .rowAt s r)) h
 
   settle-away : (s : S) (r j : ℕ) (l : Link) → j ≢ r → K .rowAt (settle K s r l) j ≡ K .rowAt s j
   unfolding settle
-  settle-away s r j l h = go (sameLink (K .rowAt s r .contour) l)
-    where
-      go : (b : Bool) → K .rowAt (cond b s (K .store s r (withContour l (K .rowAt s r)))) j ≡ K .rowAt s j
-      go true = refl
-      go false = stored .away s r j (withContour l (K .rowAt s r)) h
+  settle-away s r j l h = stored .away s r j (withContour l (K .rowAt s r)) h
 
   module _ (number : ℕ → Link) (s : S) where
     pub settled-size : (k : ℕ) → K .size (settled K number k s) ≡ K .size s

@@ -1,10 +1,8 @@
 -- Connection, whole: the checks, then the contours of the table; contour numbers found in the pool are forgotten, and those given are written.
-use mathlib.Core.Bool.{Bool, true, false, cond}
 use mathlib.Core.Option.{Option, none, some}
 use mathlib.Core.List.{List}
 use Prim.Native.Nat.{ℕ, zero, suc}
 use lib.ListN.{length, getD}
-use lib.Dec.{eqb}
 use Rattle.refusals.specs.declared.Refusal.{Refusal}
 use Rattle.events.specs.declared.Link.{Link}
 use Rattle.events.specs.declared.Link.the-variants.{None, To}
@@ -26,12 +24,6 @@ unfoldable pub contourOf : ℕ → Link
 contourOf zero = None
 contourOf (suc c) = To c
 
-unfoldable pub sameLink : Link → Link → Bool
-sameLink None None = true
-sameLink None (To b) = false
-sameLink (To a) None = false
-sameLink (To a) (To b) = eqb a b
-
 unfoldable pub withContour : {P : Type 0} → Link → Event P → Event P
 withContour l e =
     record {
@@ -49,9 +41,9 @@ withContour l e =
     }
 
 module _ {P S : Type 0} (K : Store P S) where
-  -- a record that has its number already stays as it is
+  -- nothing of the record but its contour number
   unfoldable pub settle : S → ℕ → Link → S
-  settle s r l = cond (sameLink (K .rowAt s r .contour) l) s (K .store s r (withContour l (K .rowAt s r)))
+  settle s r l = K .store s r (withContour l (K .rowAt s r))
 
   -- the first k records
   unfoldable pub settled : (ℕ → Link) → ℕ → S → S

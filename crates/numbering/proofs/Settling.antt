@@ -1,6 +1,5 @@
 -- The loop: the first r records have their numbers. Storing a record with another contour leaves its point as it stands.
 use mathlib.Core.Path.{_≡_, refl, sym, ap, _∙_}
-use mathlib.Core.Bool.{Bool, true, false, cond}
 use mathlib.Core.List.{List, [], _∷_}
 use Prim.Native.Nat.{ℕ, suc, _+_, _<_, _≤_, min}
 use native.Mathlib.Numerals.{add-one}
@@ -12,8 +11,8 @@ use lib.Seq.{set-getD}
 use Rattle.events.specs.declared.Link.{Link}
 use Rattle.numbers.specs.declared.Coordinate.{Coordinate}
 use Rattle.events.specs.Event.{Event}
-use Rattle.events.specs.Pool.{Pool, pool, size, eventOf, pointOf, marksOf, rowAt, store, stored}
-use Rattle.contours.specs.Connect.{sameLink, withContour, settle, settled}
+use Rattle.events.specs.Pool.{Pool, pool, size, eventOf, pointOf, marksOver, rowAt, store, stored}
+use Rattle.contours.specs.Connect.{withContour, settle, settled}
 use Rattle.numbering.specs.Numbering.{numberAt, marksWith, Renumbered, settledBy}
 
 -- two numbers make a point, and the point makes them
@@ -26,21 +25,16 @@ stored-point (x ∷ y ∷ z ∷ q) m h = absurd (omega arith)
 
 one-settled : (points : List (List Float)) (marks : List (List ℕ)) (r : ℕ) (l : Link) (written : List ℕ) → r < length points → r < length marks
     → Renumbered (getD points r []) (getD marks r []) l written → pool points (set marks r written) ≡ settle stored (pool points marks) r l
-unfolding settle stored rowAt store marksWith pointOf withContour
+unfolding settle stored rowAt store marksWith withContour pointOf
 one-settled points marks r l written h k n =
-    rw (n .marks, lt-ltb r (length points) h, lt-ltb r (length marks) k) (by (sameLink (eventOf (getD points r []) (getD marks r []) .contour) l))
+    rw (n .marks, lt-ltb r (length points) h, lt-ltb r (length marks) k)
+    (ap (λ (ps : List (List Float)). pool ps (set marks r (marksOver (getD marks r []) (withContour l e)))) same-points)
   where
     e : Event Coordinate
     e = eventOf (getD points r []) (getD marks r [])
 
     same-points : points ≡ set points r (pointOf e)
     same-points = rw (n .point) (sym (set-getD points r []))
-
-    by : (t : Bool)
-        → pool points (set marks r (cond t (getD marks r []) (marksOf (withContour l e))))
-        ≡ cond t (pool points marks) (store (pool points marks) r (withContour l e))
-    by true = ap (pool points) (set-getD marks r [])
-    by false = ap (λ (ps : List (List Float)). pool ps (set marks r (marksOf (withContour l e)))) same-points
 
 module _ (places walked : List ℕ) (points : List (List Float)) (marks₀ : List (List ℕ)) where
   pub record Settling (r : ℕ) (marks : List (List ℕ)) : Type 0 where

@@ -1,13 +1,12 @@
 -- The contour number of each record of a pool, by two arrays: the place of each record, and the mark at each place.
 use mathlib.Core.Path.{_≡_}
-use mathlib.Core.Bool.{cond}
 use mathlib.Core.List.{List}
 use Prim.Native.Nat.{ℕ}
 use lib.Ieee.{Float}
 use lib.ListN.{length, getD}
 use Rattle.events.specs.declared.Link.{Link}
-use Rattle.events.specs.Pool.{Pool, size, eventOf, pointOf, marksOf, stored}
-use Rattle.contours.specs.Connect.{contourOf, sameLink, withContour, settled}
+use Rattle.events.specs.Pool.{Pool, size, eventOf, pointOf, marksOver, stored}
+use Rattle.contours.specs.Connect.{contourOf, withContour, settled}
 
 -- beyond either array there is none
 unfoldable pub numberAt : List ℕ → List ℕ → ℕ → Link
@@ -20,7 +19,7 @@ settledBy places walked p = settled stored (numberAt places walked) (size p) p
 -- ---- one record, in its two rows
 
 unfoldable pub marksWith : List Float → List ℕ → Link → List ℕ
-marksWith q m l = cond (sameLink (eventOf q m .contour) l) m (marksOf (withContour l (eventOf q m)))
+marksWith q m l = marksOver m (withContour l (eventOf q m))
 
 pub record Renumbered (q : List Float) (m : List ℕ) (l : Link) (written : List ℕ) : Type 0 where
   pub marks : written ≡ marksWith q m l

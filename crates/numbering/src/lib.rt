@@ -4,12 +4,12 @@ ghost use Prim.Native.Nat.{_≤_};
 ghost use lib.ListN.{length};
 ghost use Rattle.events.specs.Event.{shown};
 ghost use Rattle.events.specs.Pool.{pool, size};
-ghost use Rattle.contours.specs.Connect.{contourOf, sameLink, withContour};
+ghost use Rattle.contours.specs.Connect.{contourOf, withContour};
 ghost use Rattle.numbering.specs.Numbering.{numberAt, Renumbered, settledBy};
 use events::Event;
 use events::Link;
 use events::pool::event_of;
-use events::pool::marks_of;
+use events::pool::marks_over;
 
 // Of a mark: 0 is open, c + 1 is walked in contour c.
 fn contour_of(mark: u32) -> Link
@@ -41,21 +41,6 @@ fn contour_at(places: &[u32], walked: &[u32], r: usize) -> Link
     contour_of(walked[at])
 }
 
-fn same_link(a: Link, b: Link) -> bool
-    ensures { λ r. ⌜ r ≡ sameLink a b ⌝ }
-{
-    match a {
-        Link::None => match b {
-            Link::None => true,
-            Link::To(_) => false,
-        },
-        Link::To(m) => match b {
-            Link::None => false,
-            Link::To(n) => m == n,
-        },
-    }
-}
-
 fn with_contour(e: Event, contour: Link) -> Event
     ensures { λ r. ⌜ shown r ≡ withContour contour (shown e) ⌝ }
 {
@@ -78,16 +63,11 @@ fn with_contour(e: Event, contour: Link) -> Event
     }
 }
 
-// The marks of a record with its contour number; one that has it already stays as it is.
+// The marks of a record with its contour number: the other marks stay as lent.
 fn renumbered(p: [f64; 2], m: [u32; 12], contour: Link) -> [u32; 12]
     ensures { λ r. ⌜ Renumbered p m contour r ⌝ }
 {
-    let e = event_of(p, m);
-    let own = e.contour;
-    if same_link(own, contour) {
-        return m;
-    }
-    marks_of(with_contour(e, contour))
+    marks_over(m, with_contour(event_of(p, m), contour))
 }
 
 // The records that both arrays hold.

@@ -1,31 +1,13 @@
 -- Number by number, the codes by their functions.
-use mathlib.Core.Path.{_≡_}
-use mathlib.Core.List.{[], _∷_}
-use Prim.Native.Nat.{ℕ}
-use Rattle.numbers.specs.declared.Coordinate.{Coordinate}
-use Rattle.events.specs.Event.{Event}
-use Rattle.events.specs.Pool.{flagNumber, thereNumber, linkNumber, edgeTypeNumber, transitionNumber, marksOf}
+use Rattle.events.specs.Pool.{marksOf}
+use Rattle.events.proofs.Codes.{marks-alike}
 use Rattle.events.proofs.pool.marks_of.Statement.{statement}
 use Rattle.events.proofs.pool.marks_of.Tie as tie
 
-all-marks : (e : Event Coordinate) {left subject there below type transition in-out other-in-out numbered contour : ℕ}
-    → left ≡ flagNumber (e .left)
-    → subject ≡ flagNumber (e .subject)
-    → there ≡ thereNumber (e .below)
-    → below ≡ linkNumber (e .below)
-    → type ≡ edgeTypeNumber (e .edgeType)
-    → transition ≡ transitionNumber (e .transition)
-    → in-out ≡ flagNumber (e .inOut)
-    → other-in-out ≡ flagNumber (e .otherInOut)
-    → numbered ≡ thereNumber (e .contour)
-    → contour ≡ linkNumber (e .contour)
-    → (left ∷ subject ∷ e .ring ∷ e .partner ∷ there ∷ below ∷ type ∷ transition ∷ in-out ∷ other-in-out ∷ numbered ∷ contour ∷ []) ≡ marksOf e
-unfolding marksOf
-all-marks e l s t b y r i o n k = rw (l, s, t, b, y, r, i, o, n, k)
-
 returns : tie.Need-returns
+unfolding marksOf
 returns c =
-    all-marks _
+    marks-alike
     (c .before .before .before .before .before .before .before .before .before .number-of-flag .ensures)
     (c .before .before .before .before .before .before .before .before .number-of-flag2 .ensures)
     (c .before .before .before .before .before .before .before .number-of-there .ensures)
