@@ -6,4 +6,5 @@ pub mod Outcomes
 pub mod Sides
 pub mod Whole
 pub mod AtBinary64
+pub mod Untouched
 pub mod Worked

@@ -55,7 +55,7 @@ module _ {P S : Type 0} {C : Coordinates P} {K : Store P S} (M : MoveLaws C) (L 
   abbrev tells : Divided
   tells = record { right = used; left = used + 1; moved = moves C (row i .point) p; swapped = not keep }
 
-  told : (d : Divided) → after .answer ≡ Done d → Passed C K s used i p → tells ≡ d
+  pub told : (d : Divided) → after .answer ≡ Done d → Passed C K s used i p → tells ≡ d
   unfolding done
   told d h g = let same : Done tells ≡ Done d = sym (ap (λ a. a .answer) (g .is)) ∙ h in cc
 

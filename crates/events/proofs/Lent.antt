@@ -1,6 +1,7 @@
--- What a write leaves of the raw arrays: every other row, and over a record that is there already each mark that says what it said.
-use mathlib.Core.Path.{_≡_, refl, sym, ap, _∙_}
+-- What a write leaves of the lent arrays: every other record, and of one that is there already each mark that says what it said.
+use mathlib.Core.Path.{_≡_, refl, sym, ap, _∙_, subst}
 use mathlib.Core.Logic.{_≢_}
+use mathlib.Core.Bool.{false}
 use mathlib.Core.List.{List, [], _∷_}
 use Prim.Native.Nat.{ℕ, zero, suc, _<_, min}
 use native.Mathlib.Omega.{arith}
@@ -10,7 +11,8 @@ use lib.ListN.{length, getD}
 use lib.Seq.{getD-set-same, getD-set-other}
 use Rattle.numbers.specs.declared.Coordinate.{Coordinate}
 use Rattle.events.specs.Event.{Event}
-use Rattle.events.specs.Pool.{Pool, size, markAt, numberAt, flagOf, flagNumber, edgeTypeOf, edgeTypeNumber, transitionOf, transitionNumber, eventOf, pointOf, marksOf, marksOver, rowAt, enter, store}
+use Rattle.events.specs.Pool.{Pool, size, flagOf, flagNumber, edgeTypeOf, edgeTypeNumber, transitionOf, transitionNumber, eventOf, pointOf, marksOf, marksOver, rowAt, enter, store, stored}
+use Rattle.events.specs.Lent.{markAt, coordinateAt, among, AsLentBut}
 use Rattle.events.proofs.Over.{over-lent, there-lent, link-lent}
 
 -- ---- the twelve marks
@@ -59,40 +61,75 @@ over-kept q m e k (otherInOut h) = over-lent flagOf flagNumber (getD m 9 0) (e .
 over-kept q m e k (numbered h) = there-lent (getD m 10 0) (getD m 11 0) (e .contour) h
 over-kept q m e k (contour h) = link-lent (getD m 10 0) (getD m 11 0) (e .contour) h
 
-pair-kept : (c : Coordinate) (q : List Float) → c ≡ record { x = getD q 0 nan; y = getD q 1 nan } → (k : ℕ) → k < 2 → getD (c .x ∷ c .y ∷ []) k nan ≡ getD q k nan
-pair-kept c q h zero l = ap (λ (d : Coordinate). d .x) h
-pair-kept c q h (suc zero) l = ap (λ (d : Coordinate). d .y) h
+pair-kept : (c : Coordinate) (q : List Float) → record { x = getD q 0 nan; y = getD q 1 nan } ≡ c → (k : ℕ) → k < 2 → getD (c .x ∷ c .y ∷ []) k nan ≡ getD q k nan
+pair-kept c q h zero l = ap (λ (d : Coordinate). d .x) (sym h)
+pair-kept c q h (suc zero) l = ap (λ (d : Coordinate). d .y) (sym h)
 pair-kept c q h (suc (suc k)) l = absurd (omega arith)
 
-module _ (p : Pool) (i : ℕ) (e : Event Coordinate) where
-  -- ---- the record itself, where both arrays hold it
+-- the record that both rows are read as
+read-at : (p : Pool) (i : ℕ) → i < size p → rowAt p i ≡ eventOf (getD (p .points) i []) (getD (p .marks) i [])
+unfolding rowAt size
+read-at p i h = rw (lt-ltb i (length (p .points)) (omega arith), lt-ltb i (length (p .marks)) (omega arith))
 
-  pub mark-kept : i < size p → (k : ℕ) → Agree (rowAt p i) e k → markAt (store p i e) i k ≡ markAt p i k
-  unfolding size rowAt store
-  mark-kept h k a =
-      rw (getD-set-same (p .marks) i (marksOver (getD (p .marks) i []) e) [] (omega arith))
-      (over-kept (getD (p .points) i []) (getD (p .marks) i []) e k (rw (lt-ltb i (length (p .points)) (omega arith), lt-ltb i (length (p .marks)) (omega arith)) at a))
+-- ---- a record stored over f, which is read there, and agreeing with it in all but these marks
 
-  pub number-kept : i < size p → e .point ≡ rowAt p i .point → (k : ℕ) → k < 2 → numberAt (store p i e) i k ≡ numberAt p i k
-  unfolding size rowAt store pointOf eventOf
-  number-kept h a k l =
-      rw (getD-set-same (p .points) i (pointOf e) [] (omega arith))
-      (pair-kept (e .point) (getD (p .points) i []) (rw (lt-ltb i (length (p .points)) (omega arith), lt-ltb i (length (p .marks)) (omega arith)) at a) k l)
+mark-here : (p : Pool) (i : ℕ) (f e : Event Coordinate) (k : ℕ) → i < size p → eventOf (getD (p .points) i []) (getD (p .marks) i []) ≡ f → Agree f e k → markAt (store p i e) i k ≡ markAt p i k
+unfolding size store
+mark-here p i f e k h read a =
+    rw (getD-set-same (p .marks) i (marksOver (getD (p .marks) i []) e) [] (omega arith))
+    (over-kept (getD (p .points) i []) (getD (p .marks) i []) e k (subst (λ (g : Event Coordinate). Agree g e k) (sym read) a))
 
-  -- ---- every other record
+coordinate-here : (p : Pool) (i : ℕ) (e : Event Coordinate) (k : ℕ) → i < size p → eventOf (getD (p .points) i []) (getD (p .marks) i []) .point ≡ e .point → k < 2
+    → coordinateAt (store p i e) i k ≡ coordinateAt p i k
+unfolding size store eventOf pointOf
+coordinate-here p i e k h read l = rw (getD-set-same (p .points) i (pointOf e) [] (omega arith)) (pair-kept (e .point) (getD (p .points) i []) read k l)
 
-  pub marks-away : (j : ℕ) → j ≢ i → getD (store p i e .marks) j [] ≡ getD (p .marks) j []
-  unfolding store
-  marks-away j d = getD-set-other (p .marks) i j (marksOver (getD (p .marks) i []) e) [] d
+pub lent-here : (p : Pool) (i : ℕ) (ks : List ℕ) (f e : Event Coordinate) → i < stored .size p → stored .rowAt p i ≡ f → f .point ≡ e .point
+    → ((k : ℕ) → k < 12 → among k ks ≡ false → Agree f e k) → AsLentBut ks p (stored .store p i e) i
+unfolding stored
+lent-here p i ks f e h r c a =
+    let read = sym (read-at p i h) ∙ r in
+    record { marks = λ k l n. mark-here p i f e k h read (a k l n); point = λ k l. coordinate-here p i e k h (ap (λ (d : Event Coordinate). d .point) read ∙ c) l }
 
-  pub points-away : (j : ℕ) → j ≢ i → getD (store p i e .points) j [] ≡ getD (p .points) j []
-  unfolding store
-  points-away j d = getD-set-other (p .points) i j (pointOf e) [] d
+-- ---- every other record
 
-  pub marks-away-enter : (j : ℕ) → j ≢ i → getD (enter p i e .marks) j [] ≡ getD (p .marks) j []
-  unfolding enter
-  marks-away-enter j d = getD-set-other (p .marks) i j (marksOf e) [] d
+module _ (p : Pool) (i j : ℕ) (e : Event Coordinate) (d : j ≢ i) where
+  pub points-away : getD (stored .store p i e .points) j [] ≡ getD (p .points) j []
+  unfolding stored store
+  points-away = getD-set-other (p .points) i j (pointOf e) [] d
 
-  pub points-away-enter : (j : ℕ) → j ≢ i → getD (enter p i e .points) j [] ≡ getD (p .points) j []
-  unfolding enter
-  points-away-enter j d = getD-set-other (p .points) i j (pointOf e) [] d
+  pub marks-away : getD (stored .store p i e .marks) j [] ≡ getD (p .marks) j []
+  unfolding stored store
+  marks-away = getD-set-other (p .marks) i j (marksOver (getD (p .marks) i []) e) [] d
+
+  pub points-away-enter : getD (stored .enter p i e .points) j [] ≡ getD (p .points) j []
+  unfolding stored enter
+  points-away-enter = getD-set-other (p .points) i j (pointOf e) [] d
+
+  pub marks-away-enter : getD (stored .enter p i e .marks) j [] ≡ getD (p .marks) j []
+  unfolding stored enter
+  marks-away-enter = getD-set-other (p .marks) i j (marksOf e) [] d
+
+-- both rows as lent
+whole-rows : (p q : Pool) (r : ℕ) → getD (q .points) r [] ≡ getD (p .points) r [] → getD (q .marks) r [] ≡ getD (p .marks) r [] → AsLentBut [] p q r
+whole-rows p q r a b = record { marks = λ k l n. ap (λ (m : List ℕ). getD m k 0) b; point = λ k l. ap (λ (m : List Float). getD m k nan) a }
+
+module _ (p : Pool) (i j : ℕ) (e : Event Coordinate) (d : j ≢ i) where
+  pub lent-away : AsLentBut [] p (stored .store p i e) j
+  lent-away = whole-rows p (stored .store p i e) j (points-away p i j e d) (marks-away p i j e d)
+
+  pub lent-away-enter : AsLentBut [] p (stored .enter p i e) j
+  lent-away-enter = whole-rows p (stored .enter p i e) j (points-away-enter p i j e d) (marks-away-enter p i j e d)
+
+-- ---- one after the other
+
+pub lent-same : (p : Pool) (r : ℕ) → AsLentBut [] p p r
+lent-same p r = whole-rows p p r refl refl
+
+module _ {p q s : Pool} {r : ℕ} {ks : List ℕ} where
+  -- none more and then these, these and then none more
+  pub lent-then : AsLentBut [] p q r → AsLentBut ks q s r → AsLentBut ks p s r
+  lent-then a b = record { marks = λ k l n. b .marks k l n ∙ a .marks k l refl; point = λ k l. b .point k l ∙ a .point k l }
+
+  pub then-lent : AsLentBut ks p q r → AsLentBut [] q s r → AsLentBut ks p s r
+  then-lent a b = record { marks = λ k l n. b .marks k l refl ∙ a .marks k l n; point = λ k l. b .point k l ∙ a .point k l }

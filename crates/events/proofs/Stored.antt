@@ -20,7 +20,7 @@ use Rattle.events.specs.Event.{Event}
 use Rattle.events.specs.Store.{Store}
 use Rattle.events.proofs.Codes.{flag, link, edgeType, transition}
 use Rattle.events.proofs.Over.{over-says, link-says}
-use Rattle.events.specs.Pool.{Pool, size, flagOf, flagNumber, linkOf, thereNumber, linkNumber, edgeTypeOf, edgeTypeNumber, transitionOf, transitionNumber, eventOf, pointOf, marksOf, marksOver, rowAt, written, enter, store, stored}
+use Rattle.events.specs.Pool.{Pool, size, flagOf, flagNumber, linkOf, thereNumber, linkNumber, edgeTypeOf, edgeTypeNumber, transitionOf, transitionNumber, eventOf, pointOf, marksOf, marksOver, rowAt, withRows, enter, store, stored}
 
 -- no two records share their rows
 pub back : (e : Event Coordinate) → eventOf (pointOf e) (marksOf e) ≡ e
@@ -34,23 +34,23 @@ back-over m e =
     rw
     (over-says flagOf flagNumber flag (getD m 0 0) (e .left), over-says flagOf flagNumber flag (getD m 1 0) (e .subject), over-says flagOf flagNumber flag (getD m 8 0) (e .inOut), over-says flagOf flagNumber flag (getD m 9 0) (e .otherInOut), link-says (getD m 4 0) (getD m 5 0) (e .below), link-says (getD m 10 0) (getD m 11 0) (e .contour), over-says edgeTypeOf edgeTypeNumber edgeType (getD m 6 0) (e .edgeType), over-says transitionOf transitionNumber transition (getD m 7 0) (e .transition))
 
--- ---- a record written with any marks for it
+-- ---- with any marks that are the record's own
 
 module _ (p : Pool) (i : ℕ) (e : Event Coordinate) (m : List ℕ) where
-  size-written : size (written p i e m) ≡ size p
+  size-rows : size (withRows p i e m) ≡ size p
   unfolding size
-  size-written = rw (length-set (p .points) i (pointOf e), length-set (p .marks) i m)
+  size-rows = rw (length-set (p .points) i (pointOf e), length-set (p .marks) i m)
 
-  here-written : eventOf (pointOf e) m ≡ e → i < size p → rowAt (written p i e m) i ≡ e
+  here-rows : eventOf (pointOf e) m ≡ e → i < size p → rowAt (withRows p i e m) i ≡ e
   unfolding rowAt size
-  here-written b h =
+  here-rows b h =
       rw
       (length-set (p .points) i (pointOf e), length-set (p .marks) i m, lt-ltb i (length (p .points)) (omega arith), lt-ltb i (length (p .marks)) (omega arith), getD-set-same (p .points) i (pointOf e) [] (omega arith), getD-set-same (p .marks) i m [] (omega arith))
       b
 
-  away-written : (j : ℕ) → j ≢ i → rowAt (written p i e m) j ≡ rowAt p j
+  away-rows : (j : ℕ) → j ≢ i → rowAt (withRows p i e m) j ≡ rowAt p j
   unfolding rowAt
-  away-written j h = rw (length-set (p .points) i (pointOf e), length-set (p .marks) i m, getD-set-other (p .points) i j (pointOf e) [] h, getD-set-other (p .marks) i j m [] h)
+  away-rows j h = rw (length-set (p .points) i (pointOf e), length-set (p .marks) i m, getD-set-other (p .points) i j (pointOf e) [] h, getD-set-other (p .marks) i j m [] h)
 
 -- what every store of records owes: the pool is one
 pub record Stored {P S : Type 0} (K : Store P S) : Type 0 where
@@ -65,10 +65,10 @@ pub pool-stored : Stored stored
 unfolding stored enter store
 pool-stored =
     record {
-      size-enter = λ p i e. size-written p i e (marksOf e);
-      here-enter = λ p i e. here-written p i e (marksOf e) (back e);
-      away-enter = λ p i j e. away-written p i e (marksOf e) j;
-      size-store = λ p i e. size-written p i e (marksOver (getD (p .marks) i []) e);
-      here = λ p i e. here-written p i e (marksOver (getD (p .marks) i []) e) (back-over (getD (p .marks) i []) e);
-      away = λ p i j e. away-written p i e (marksOver (getD (p .marks) i []) e) j;
+      size-enter = λ p i e. size-rows p i e (marksOf e);
+      here-enter = λ p i e. here-rows p i e (marksOf e) (back e);
+      away-enter = λ p i j e. away-rows p i e (marksOf e) j;
+      size-store = λ p i e. size-rows p i e (marksOver (getD (p .marks) i []) e);
+      here = λ p i e. here-rows p i e (marksOver (getD (p .marks) i []) e) (back-over (getD (p .marks) i []) e);
+      away = λ p i j e. away-rows p i e (marksOver (getD (p .marks) i []) e) j;
     }

@@ -27,13 +27,6 @@ pool p m = record { points = p; marks = m }
 unfoldable pub size : Pool → ℕ
 size p = min (length (p .points)) (length (p .marks))
 
--- the raw number in mark k of record r, and coordinate k
-abbrev pub markAt : Pool → ℕ → ℕ → ℕ
-markAt p r k = getD (getD (p .marks) r []) k 0
-
-abbrev pub numberAt : Pool → ℕ → ℕ → Float
-numberAt p r k = getD (getD (p .points) r []) k nan
-
 -- ---- numbers for what a record holds
 
 abbrev pub flagOf : ℕ → Bool
@@ -154,15 +147,15 @@ rowAt p i =
     (cond (ltb i (length (p .marks))) (eventOf (getD (p .points) i []) (getD (p .marks) i [])) (blank i))
     (blank i)
 
--- a record with these marks for it, in its two rows
-abbrev pub written : Pool → ℕ → Event Coordinate → List ℕ → Pool
-written p i e m = record { points = set (p .points) i (pointOf e); marks = set (p .marks) i m }
+-- a record's two rows, these marks being its own
+abbrev pub withRows : Pool → ℕ → Event Coordinate → List ℕ → Pool
+withRows p i e m = record { points = set (p .points) i (pointOf e); marks = set (p .marks) i m }
 
 unfoldable pub enter : Pool → ℕ → Event Coordinate → Pool
-enter p i e = written p i e (marksOf e)
+enter p i e = withRows p i e (marksOf e)
 
 unfoldable pub store : Pool → ℕ → Event Coordinate → Pool
-store p i e = written p i e (marksOver (getD (p .marks) i []) e)
+store p i e = withRows p i e (marksOver (getD (p .marks) i []) e)
 
 -- the pool as a store of records
 unfoldable pub stored : Store Coordinate Pool
