@@ -3,4 +3,5 @@ pub mod Connection
 pub mod Answer
 pub mod Shown
 pub mod Demand
+pub mod OnlyNumbers
 pub mod Steps

@@ -29,7 +29,7 @@ module _ {P S : Type 0} (K : Store P S) (stored : Stored K) where
     settled-size (suc k) = settle-size (settled K number k s) k (number k) ∙ settled-size k
 
     -- a record that is not yet reached
-    settled-on : (k r : ℕ) → k ≤ r → K .rowAt (settled K number k s) r ≡ K .rowAt s r
+    pub settled-on : (k r : ℕ) → k ≤ r → K .rowAt (settled K number k s) r ≡ K .rowAt s r
     unfolding settled
     settled-on zero r h = refl
     settled-on (suc k) r h = settle-away (settled K number k s) k r (number k) (λ q. absurd (omega arith)) ∙ settled-on k r (omega arith)

@@ -123,8 +123,8 @@ module _ (p : Pool) (i j : ℕ) (e : Event Coordinate) (d : j ≢ i) where
 
 -- ---- one after the other
 
-pub lent-same : (p : Pool) (r : ℕ) → AsLentBut [] p p r
-lent-same p r = whole-rows p p r refl refl
+pub lent-same : (ks : List ℕ) (p : Pool) (r : ℕ) → AsLentBut ks p p r
+lent-same ks p r = record { marks = λ k l n. refl; point = λ k l. refl }
 
 module _ {p q s : Pool} {r : ℕ} {ks : List ℕ} where
   -- none more and then these, these and then none more

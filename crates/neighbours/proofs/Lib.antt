@@ -14,3 +14,4 @@ pub mod Trace
 pub mod Codes
 pub mod Crossings
 pub mod Coincidences
+pub mod Lent

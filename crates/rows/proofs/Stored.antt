@@ -7,7 +7,7 @@ use borrow.Author.Tests.{lt-ltb}
 use lib.ListN.{length, length-set}
 use lib.Seq.{getD-set-same, getD-set-other}
 use Rattle.numbers.specs.declared.Coordinate.{Coordinate}
-use Rattle.events.proofs.Stored.{flag}
+use Rattle.events.proofs.Codes.{flag}
 use Rattle.contours.specs.Table.{Below, nothing, over, Row}
 use Rattle.rows.specs.declared.End.{End}
 use Rattle.rows.specs.Rows.{Rows, size, pointOf, pointCode, endOf, endCode, belowOf, belowNumber, belowFlag, rowOf, endFor, pointIn, endIn, tableRow, put}

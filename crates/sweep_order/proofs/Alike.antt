@@ -63,7 +63,7 @@ module _ {P S : Type 0} (C : Coordinates P) {K : Store P S} (st : Stored K) {n :
     unfolding parted newEnd linked rename renameLink
     twin-parted i e f c keep l =
         let one = twin-more t st (newEnd e c false i) (newEnd (rename (ρ .to) e) c false (ρ .to i)) (used + 1) refl refl (omega arith) in
-        let two = twin-more one st (newEnd e c keep (e .partner)) (newEnd (rename (ρ .to) e) c keep (ρ .to (e .partner))) (used + 2) (omega arith) refl (rw (st .size-store s used (newEnd e c false i)) l) in
+        let two = twin-more one st (newEnd e c keep (e .partner)) (newEnd (rename (ρ .to) e) c keep (ρ .to (e .partner))) (used + 2) (omega arith) refl (rw (st .size-enter s used (newEnd e c false i)) l) in
         let three = twin-store two st i (linked e used (e .left)) (linked (rename (ρ .to) e) used (e .left)) (ap (λ k. linked (rename (ρ .to) e) k (e .left)) (used-to t)) in
         let flag = cond keep (f .left) true in
         twin-store three st (e .partner) (linked f (used + 1) flag) (linked (rename (ρ .to) f) (used + 1) flag) (ap (λ k. linked (rename (ρ .to) f) k flag) (next-to t))

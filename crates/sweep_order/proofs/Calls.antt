@@ -1,16 +1,14 @@
 -- What two calls of the sweep leave in the lent arrays, from what their runs leave.
 use mathlib.Core.Path.{_≡_, refl, sym, ap, _∙_, subst}
-use mathlib.Core.Logic.{_≢_}
 use mathlib.Core.List.{List, []}
 use Prim.Native.Nat.{ℕ, suc, _-_, _/_}
 use lib.ListN.{length, getD, length-map}
-use lib.Seq.{sets, getD-set-other}
-use Rattle.numbers.specs.declared.Coordinate.{Coordinate}
+use lib.Seq.{sets}
 use Rattle.events.specs.Binary64.{binary64, inMode}
-use Rattle.events.specs.Event.{Event}
-use Rattle.events.specs.Pool.{Pool, pointOf, marksOf, store, size, stored}
+use Rattle.events.specs.Pool.{Pool, size, stored}
 use Rattle.events.proofs.Stored.{pool-stored}
 use Rattle.events.proofs.Looks.{pool-blanks}
+use Rattle.events.proofs.Lent.{points-away, marks-away, points-away-enter, marks-away-enter}
 use Rattle.class.specs.declared.Operation.{Operation}
 use Rattle.checks.specs.declared.Check.the-variants.{Passed}
 use Rattle.division.proofs.AtBinary64.{move-laws}
@@ -27,20 +25,12 @@ use Rattle.sweep_order.proofs.Unused.{unused}
 
 -- ---- places that are not in use
 
-points-away : (p : Pool) (i j : ℕ) (e : Event Coordinate) → j ≢ i → getD (stored .store p i e .points) j [] ≡ getD (p .points) j []
-unfolding stored store
-points-away p i j e d = getD-set-other (p .points) i j (pointOf e) [] d
-
-marks-away : (p : Pool) (i j : ℕ) (e : Event Coordinate) → j ≢ i → getD (stored .store p i e .marks) j [] ≡ getD (p .marks) j []
-unfolding stored store
-marks-away p i j e d = getD-set-other (p .marks) i j (marksOf e) [] d
-
 rest-as-lent : (op : Operation) (mode : ℕ) (p : Pool) (n : ℕ) → Good binary64 stored p n → AsLent (subdivide binary64 stored (inMode mode) op p n .used) p (subdivide binary64 stored (inMode mode) op p n .store)
 unfolding subdivide after
 rest-as-lent op mode p n g =
     record {
-      points = unused move-laws pool-stored pool-blanks (inMode mode) op (λ q r. getD (q .points) r []) points-away p n g (suc (stored .size p));
-      marks = unused move-laws pool-stored pool-blanks (inMode mode) op (λ q r. getD (q .marks) r []) marks-away p n g (suc (stored .size p));
+      points = unused move-laws pool-stored pool-blanks (inMode mode) op (λ q r. getD (q .points) r []) points-away-enter points-away p n g (suc (stored .size p));
+      marks = unused move-laws pool-stored pool-blanks (inMode mode) op (λ q r. getD (q .marks) r []) marks-away-enter marks-away p n g (suc (stored .size p));
     }
 
 -- ---- the answer

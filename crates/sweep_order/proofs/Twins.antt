@@ -79,17 +79,17 @@ module _ {P S : Type 0} {K : Store P S} {n : ℕ} {ρ : Renaming n} {s s′ : S}
               ∙ ap (rename (ρ .to)) (sym (look-store st s e r used i (t .fits)));
         }
 
-    twin-next : (e e′ : Event P) → e′ ≡ rename (ρ .to) e → used < K .size s → Twin K ρ (K .store s used e) (K .store s′ used e′) (used + 1)
+    twin-next : (e e′ : Event P) → e′ ≡ rename (ρ .to) e → used < K .size s → Twin K ρ (K .enter s used e) (K .enter s′ used e′) (used + 1)
     twin-next e e′ h l =
         record {
           grown = omega (arith, t .grown);
-          size = st .size-store s′ used e′ ∙ t .size ∙ sym (st .size-store s used e);
-          fits = rw (st .size-store s used e) (omega (arith, l));
+          size = st .size-enter s′ used e′ ∙ t .size ∙ sym (st .size-enter s used e);
+          fits = rw (st .size-enter s used e) (omega (arith, l));
           looks = λ r.
               look-more st s′ e′ (ρ .to r) used (rw (t .size) l)
               ∙ rw (eqb-fixed ρ r used (t .grown), t .looks r, h) (cond-map (rename (ρ .to)) (eqb r used) e (look K s used r))
               ∙ ap (rename (ρ .to)) (sym (look-more st s e r used l));
         }
 
-    pub twin-more : (e e′ : Event P) (more : ℕ) → more ≡ used + 1 → e′ ≡ rename (ρ .to) e → used < K .size s → Twin K ρ (K .store s used e) (K .store s′ used e′) more
-    twin-more e e′ more m h l = subst (Twin K ρ (K .store s used e) (K .store s′ used e′)) (sym m) (twin-next e e′ h l)
+    pub twin-more : (e e′ : Event P) (more : ℕ) → more ≡ used + 1 → e′ ≡ rename (ρ .to) e → used < K .size s → Twin K ρ (K .enter s used e) (K .enter s′ used e′) more
+    twin-more e e′ more m h l = subst (Twin K ρ (K .enter s used e) (K .enter s′ used e′)) (sym m) (twin-next e e′ h l)

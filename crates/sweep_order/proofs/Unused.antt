@@ -1,4 +1,4 @@
--- Places that are not in use stay as lent: a step stores at the event taken, at members of the status, at the ends of a divided segment and at the two
+-- Places that are not in use stay as lent: a step writes at the event taken, at members of the status, at the ends of a divided segment and at the two
 -- new places, and all these are in use after it.
 use mathlib.Core.Path.{_≡_, refl, ap, _∙_}
 use mathlib.Core.Logic.{_≢_}
@@ -24,8 +24,9 @@ use Rattle.sweep.proofs.Kept.{keeping-start, kept-run}
 use Rattle.sweep.proofs.Good.{good-put, good-divided, left-in-use}
 use Rattle.sweep_order.specs.Loadings.{after}
 
--- what a place holds, read in any way that a store elsewhere leaves alone
+-- what a place holds, read in any way that a write elsewhere leaves alone
 module _ {P S A : Type 0} {C : Coordinates P} {K : Store P S} (M : MoveLaws C) (st : Stored K) (bl : Blanks K) (held : S → ℕ → A)
+    (away-enter : (s : S) (i j : ℕ) (e : Event P) → j ≢ i → held (K .enter s i e) j ≡ held s j)
     (away : (s : S) (i j : ℕ) (e : Event P) → j ≢ i → held (K .store s i e) j ≡ held s j) (lent : S) where
   record AsLent (used : ℕ) (s : S) : Type 0 where
     pub good : Good C K s used
@@ -37,7 +38,7 @@ module _ {P S A : Type 0} {C : Coordinates P} {K : Store P S} (M : MoveLaws C) (
   held-parted : (s : S) (used i : ℕ) (e f : Event P) (c : P) (keep : Bool) → i < used → e .partner < used → (r : ℕ) → used + 2 ≤ r → held (parted K s used i e f c keep) r ≡ held s r
   unfolding parted
   held-parted s used i e f c keep own other r l =
-      away _ (e .partner) r _ (λ q. omega arith) ∙ away _ i r _ (λ q. omega arith) ∙ away _ (used + 1) r _ (λ q. omega arith) ∙ away s used r _ (λ q. omega arith)
+      away _ (e .partner) r _ (λ q. omega arith) ∙ away _ i r _ (λ q. omega arith) ∙ away-enter _ (used + 1) r _ (λ q. omega arith) ∙ away-enter s used r _ (λ q. omega arith)
 
   lent-divided : (used : ℕ) (s : S) (i : ℕ) (p : P) (d : Divided) → AsLent used s → divide C K s used i p .answer ≡ Done d → AsLent (divide C K s used i p .used) (divide C K s used i p .store)
   unfolding done
@@ -58,9 +59,10 @@ module _ {P S A : Type 0} {C : Coordinates P} {K : Store P S} (M : MoveLaws C) (
   lent-kept crossing = used-kept C K crossing AsLent st (λ used s h. h .good .fits) lent-put lent-divided
 
 module _ {P S A : Type 0} {C : Coordinates P} {K : Store P S} (M : MoveLaws C) (st : Stored K) (bl : Blanks K) (crossing : Crossing P) (op : Operation) (held : S → ℕ → A)
+    (away-enter : (s : S) (i j : ℕ) (e : Event P) → j ≢ i → held (K .enter s i e) j ≡ held s j)
     (away : (s : S) (i j : ℕ) (e : Event P) → j ≢ i → held (K .store s i e) j ≡ held s j) where
   pub unused : (s : S) (n : ℕ) → Good C K s n → (k r : ℕ) → after C K crossing op k s n .used ≤ r → held (after C K crossing op k s n .store) r ≡ held s r
   unfolding after numbersInUse
   unused s n g k =
-      kept-run (numbersInUse (AsLent M st bl held away s)) (lent-kept M st bl held away s crossing) op (past C op (K .rowAt s) n) (λ m e l. l) k _
+      kept-run (numbersInUse (AsLent M st bl held away-enter away s)) (lent-kept M st bl held away-enter away s crossing) op (past C op (K .rowAt s) n) (λ m e l. l) k _
       (keeping-start _ s (K .size s) n (record { good = g; rest = λ r l. refl })) .store .rest

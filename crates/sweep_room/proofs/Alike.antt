@@ -43,7 +43,7 @@ module _ {P S : Type 0} (C : Coordinates P) {K : Store P S} (st : Stored K) {n :
   -- ---- division
   parted-front : (s : S) (m i : ℕ) (e f : Event P) (c : P) (keep : Bool) → parted K (F .front s) m i e f c keep ≡ F .front (parted K s m i e f c keep)
   unfolding parted
-  parted-front s m i e f c keep = simp (F .store-front)
+  parted-front s m i e f c keep = simp (F .enter-front, F .store-front)
 
   divide-front : {s : S} {m : ℕ} → Within K n s m → (i : ℕ) (e f : Event P) (c : P) (move : Bool)
       → StepsAlike B m (m + 2) (stepOf (divideAt C K s m i e f c move)) (stepOf (divideAt C K (F .front s) m i e f c move))

@@ -16,6 +16,7 @@ use Rattle.division.proofs.Cases.{room}
 -- how a store is cut down to its first n places; where it has fewer, nothing is said of sizes and rows
 pub record Front {P S : Type 0} (K : Store P S) (n : ℕ) : Type 0 where
   pub front : S → S
+  pub enter-front : (s : S) (i : ℕ) (e : Event P) → front (K .enter s i e) ≡ K .enter (front s) i e
   pub store-front : (s : S) (i : ℕ) (e : Event P) → front (K .store s i e) ≡ K .store (front s) i e
   pub size-front : (s : S) → n ≤ K .size s → K .size (front s) ≡ n
   pub row-front : (s : S) (i : ℕ) → n ≤ K .size s → i < n → K .rowAt (front s) i ≡ K .rowAt s i

@@ -8,9 +8,9 @@ use lib.Seq.{length-take-le, getD-take}
 use borrow.Author.Tests.{lt-ltb}
 use Rattle.numbers.specs.declared.Coordinate.{Coordinate}
 use Rattle.events.specs.Event.{Event}
-use Rattle.events.specs.Pool.{Pool, pool, size, pointOf, marksOf, rowAt, store, stored}
+use Rattle.events.specs.Pool.{Pool, pool, size, pointOf, marksOf, marksOver, rowAt, enter, store, stored}
 use Rattle.sweep_room.specs.Room.{firstPlaces}
-use Rattle.sweep_room.proofs.Places.{take-set}
+use Rattle.sweep_room.proofs.Places.{take-set, take-over}
 use Rattle.sweep_room.proofs.Fronts.{Front}
 
 pub wide-pool : (n : ℕ) (p : Pool) → n ≤ length (p .points) → length (p .marks) ≡ length (p .points) → n ≤ size p
@@ -18,9 +18,13 @@ unfolding size
 wide-pool n p within marks = omega arith
 
 module _ (n : ℕ) where
+  enter-first : (p : Pool) (i : ℕ) (e : Event Coordinate) → firstPlaces n (enter p i e) ≡ enter (firstPlaces n p) i e
+  unfolding enter
+  enter-first p i e = ap₂ pool (take-set n (p .points) i (pointOf e)) (take-set n (p .marks) i (marksOf e))
+
   pub store-first : (p : Pool) (i : ℕ) (e : Event Coordinate) → firstPlaces n (store p i e) ≡ store (firstPlaces n p) i e
   unfolding store
-  store-first p i e = ap₂ pool (take-set n (p .points) i (pointOf e)) (take-set n (p .marks) i (marksOf e))
+  store-first p i e = ap₂ pool (take-set n (p .points) i (pointOf e)) (take-over n (p .marks) i [] (λ m. marksOver m e))
 
   module _ (p : Pool) (wide : n ≤ size p) where
     pub points-first : length (take n (p .points)) ≡ n
@@ -43,4 +47,4 @@ module _ (n : ℕ) where
 
   unfoldable pub pool-front : Front stored n
   unfolding stored
-  pool-front = record { front = firstPlaces n; store-front = store-first; size-front = size-first; row-front = λ p i w l. row-first p w i l }
+  pool-front = record { front = firstPlaces n; enter-front = enter-first; store-front = store-first; size-front = size-first; row-front = λ p i w l. row-first p w i l }
