@@ -30,6 +30,8 @@ pub const ALL: &[(&str, Family)] = &[
     ("tiny and huge", tiny_and_huge),
     ("one layer", one_layer),
     ("many crossings", many_crossings),
+    ("strips along walls", strips_along_walls),
+    ("named", named),
 ];
 
 /// Every edge has two ends that differ, of a size that loads.
@@ -229,6 +231,63 @@ fn one_layer(random: &mut Random) -> Sheet {
     let mut made = if random.one_in(2) { triangles(random) } else { stars(random) };
     let subject = layer(random);
     made.iter_mut().for_each(|edge| edge.subject = subject);
+    made
+}
+
+/// Rooms of a gallery, a gap between them, and strips that begin or end at their walls.
+fn strips_along_walls(random: &mut Random) -> Sheet {
+    let (columns, rows) = (1 + random.below(3), 1 + random.below(3));
+    let [x, y] = [columns, rows].map(|n| 5 * n);
+    let mut made = Sheet::new();
+    for room in 0..columns * rows {
+        let corner = [5.0 * (room % columns) as f64, 5.0 * (room / columns) as f64];
+        let size = [4.0, 3.0 + random.below(2) as f64];
+        made.extend(ring(&rectangle(corner, size), true, room as u32, random));
+    }
+    for strip in 0..1 + random.below(3) as u32 {
+        let corner = [random.below(x) as f64, random.below(y) as f64];
+        let size = [1.0 + random.below(x) as f64, 1.0 + random.below(4) as f64];
+        made.extend(ring(&rectangle(corner, size), false, 100 + strip, random));
+    }
+    made
+}
+
+type Named = (bool, &'static [Point]);
+
+/// Smallest sheets that the documents name: rings of a layer, of two corners where an edge is listed both ways, and
+/// edges alone.
+const NAMED_RINGS: &[&[Named]] = &[
+    // Refusal 8 as an intersection, and 9 as a xor.
+    &[(true, &[[0.0, 1.0], [3.0, 4.0]]), (false, &[[1.0, 3.0], [2.0, 2.0]])],
+    &[(true, &[[0.0, 5.0], [4.0, 2.0]]), (false, &[[1.0, 2.0], [2.0, 4.0]])],
+    // Closed layers that give open contours.
+    &[(true, &[[7.0, 6.0], [3.0, 3.0], [0.0, 1.0]]), (false, &[[6.0, 0.0], [5.0, 0.0], [1.0, 6.0]])],
+    // A room that is told as a hole of another.
+    &[
+        (true, &[[0.0, 0.0], [4.0, 0.0], [4.0, 3.0], [0.0, 3.0]]),
+        (true, &[[0.0, 4.0], [4.0, 4.0], [4.0, 7.0], [0.0, 7.0]]),
+        (false, &[[0.0, 0.0], [1.0, 0.0], [1.0, 3.0], [0.0, 3.0]]),
+    ],
+];
+/// Refusal 7, with nothing in the other layer.
+const NAMED_EDGES: [[Point; 2]; 4] =
+    [[[2.0, 2.0], [2.0, 0.0]], [[3.0, 1.0], [2.0, 3.0]], [[3.0, 2.0], [1.0, 3.0]], [[3.0, 3.0], [0.0, 0.0]]];
+
+/// At another scale, and with the layers in each other's place.
+fn named(random: &mut Random) -> Sheet {
+    let mut made = if random.one_in(3) {
+        NAMED_EDGES.map(|[from, to]| Edge { subject: true, ring: 0, from, to }).to_vec()
+    } else {
+        let rings = random.pick(NAMED_RINGS);
+        rings.iter().zip(0..).flat_map(|((subject, corners), number)| ring(corners, *subject, number, random)).collect()
+    };
+    let scale = random.pick(&[1.0, 1.0, 0.5, 3.0, 2f64.powi(-20)]);
+    let is_other_way = random.one_in(4);
+    for edge in &mut made {
+        edge.from = edge.from.map(|x| x * scale);
+        edge.to = edge.to.map(|x| x * scale);
+        edge.subject ^= is_other_way;
+    }
     made
 }
 

@@ -4,12 +4,13 @@
    sweep:   1, edges, operation, mode, places; ends, labels
             -> refusals of loading and of the sweep, place; counts; points, marks of the places in use; taken
    connect: 2, places, listed, corners, contours, holes; points, marks, list
-            -> refusal, place; counts; corners, contours, holes
+            -> refusal, place; counts; marks, corners, contours, holes
    overlay: 3, bytes, room; bytes
             -> refusal, place, length; text */
 #include <bezorika.h>
 #include <stdio.h>
 #include <stdlib.h>
+#include <string.h>
 
 enum { SIZE = 4096 };
 
@@ -28,6 +29,12 @@ static void put(const void *from, size_t bytes)
         exit(1);
 }
 
+/* Counts that a call leaves as lent tell nothing. */
+static void clear(void)
+{
+    memset(counts, 0, sizeof counts);
+}
+
 static void sweep(void)
 {
     uint32_t head[4], used = 0;
@@ -35,6 +42,7 @@ static void sweep(void)
     get(head, sizeof head);
     get(ends, head[0] * sizeof ends[0]);
     get(labels, head[0] * sizeof labels[0]);
+    clear();
     told[0] = bezorika_load(ends, head[0], labels, head[0], points, head[3], marks, head[3], &used, &told[2]);
     told[1] = bezorika_subdivide(points, head[3], marks, head[3], used, head[1], head[2], list, head[3], counts, &told[2]);
     put(told, sizeof told);
@@ -52,10 +60,12 @@ static void connect(void)
     get(points, head[0] * sizeof points[0]);
     get(marks, head[0] * sizeof marks[0]);
     get(list, head[1] * sizeof list[0]);
+    clear();
     told[0] = bezorika_connect(points, head[0], marks, head[0], list, head[1], corners, head[2], contours, head[3], holes,
         head[4], counts, &told[1]);
     put(told, sizeof told);
     put(counts, sizeof counts);
+    put(marks, head[0] * sizeof marks[0]);
     put(corners, counts[1] * sizeof corners[0]);
     put(contours, counts[0] * sizeof contours[0]);
     put(holes, counts[2] * sizeof holes[0]);

@@ -1,10 +1,11 @@
 //! 01's sweep by its two searching rules, over the Rust's leaves, and whether a run of it is clean.
-use super::boolean::leaves::{compare_segments, compute_fields, possible_intersection};
+use super::boolean::leaves::{compare_segments, compute_fields};
 use super::boolean::Operation;
+use super::entries::Refused;
 use super::events::{bounds, is, load, mate, partners, Event};
+use super::meeting::meet;
 use inputs::sheets::Edge;
 use std::cmp::Ordering;
-use std::collections::BinaryHeap;
 
 /// Why a run is not clean.
 #[derive(Clone, Copy, PartialEq, Eq, PartialOrd, Ord, Debug)]
@@ -22,8 +23,8 @@ pub struct Run {
     /// At some taking another waiting event tied with the one taken.
     pub tied: bool,
     /// A division that 01 refuses was met; nothing after it was done.
-    pub refused: bool,
-    /// All events, loaded and made: they hold each other weakly.
+    pub refused: Option<Refused>,
+    /// All events, loaded and made, each at its number.
     pub all: Vec<Event>,
 }
 
@@ -58,7 +59,7 @@ struct Sweep {
 
 pub fn sweep(sheet: &[Edge], operation: Operation, size: usize) -> Run {
     let all = load(sheet);
-    let run = Run { taken: vec![], divisions: 0, unclean: None, tied: false, refused: false, all: all.clone() };
+    let run = Run { taken: vec![], divisions: 0, unclean: None, tied: false, refused: None, all: all.clone() };
     let (subject, clip) = (bounds(&all, true), bounds(&all, false));
     let mut sweep = Sweep { waiting: vec![], status: vec![], run, operation, size };
     all.iter().for_each(|event| sweep.wait(event));
@@ -74,7 +75,7 @@ pub fn sweep(sheet: &[Edge], operation: Operation, size: usize) -> Run {
         } else {
             sweep.leave(&mate(&event));
         }
-        if sweep.run.refused {
+        if sweep.run.refused.is_some() {
             break;
         }
     }
@@ -93,7 +94,7 @@ impl Sweep {
         self.waiting.push(Waiting { event: event.clone(), key: key(event) });
     }
 
-    /// The first in event order of all waiting, the lower number on a tie.
+    /// The first in event order of all waiting, who stand by their numbers; the lower one on a tie.
     fn take(&mut self) -> Option<Event> {
         let mut best = 0;
         for i in 1..self.waiting.len() {
@@ -134,13 +135,13 @@ impl Sweep {
         self.check_member(event);
         compute_fields(event, lower.as_ref(), self.operation);
         if let Some(upper) = upper {
-            if self.meet(event, &upper) == 2 {
+            if self.coincide(event, &upper) {
                 compute_fields(event, lower.as_ref(), self.operation);
                 compute_fields(&upper, Some(event), self.operation);
             }
         }
         let Some(lower) = lower else { return };
-        if !self.run.refused && self.meet(&lower, event) == 2 {
+        if self.run.refused.is_none() && self.coincide(&lower, event) {
             compute_fields(&lower, lowest.as_ref(), self.operation);
             compute_fields(event, Some(&lower), self.operation);
         }
@@ -150,28 +151,27 @@ impl Sweep {
         let Some(place) = self.status.iter().position(|m| is(m, event)) else { return };
         if place > 0 && place + 1 < self.status.len() {
             let (lower, upper) = (self.status[place - 1].clone(), self.status[place + 1].clone());
-            self.meet(&lower, &upper);
+            self.coincide(&lower, &upper);
         }
         self.status.remove(place);
     }
 
-    /// The published `possible_intersection`; what it made waits, and what it changed is looked at.
-    fn meet(&mut self, a: &Event, b: &Event) -> u8 {
-        let old = [(a.clone(), mate(a)), (b.clone(), mate(b))];
-        let mut queue = BinaryHeap::new();
-        let code = possible_intersection(a, b, &mut queue);
-        let made = queue.into_vec();
-        self.run.all.extend(made.iter().cloned());
+    /// What a meeting of the two made waits, and what it changed is looked at; whether their types were set, and nothing refused.
+    fn coincide(&mut self, a: &Event, b: &Event) -> bool {
+        let met = meet(a, b, self.size - self.run.all.len());
+        let made: Vec<Event> = met.done.into_iter().flat_map(|division| [division.new_right, division.new_left]).collect();
         self.run.divisions += made.len() / 2;
-        if old.iter().any(|segment| is_refused(segment, &made)) || self.run.all.len() > self.size {
-            self.run.refused = true;
-            return code;
+        self.run.all.extend(made.iter().cloned());
+        if let Some((number, record)) = met.refused {
+            let place = self.run.all.iter().position(|event| is(event, &record)).expect("every record has a number");
+            self.run.refused = Some((number, place as u64));
+            return false;
         }
         self.look_again();
         made.iter().for_each(|event| self.wait(event));
         self.check_member(a);
         self.check_member(b);
-        code
+        met.code == 2
     }
 
     /// Waiting events whose partner or flag has changed: does one stand otherwise to another than before?
@@ -194,37 +194,4 @@ impl Sweep {
             self.waiting[i].key = key(&self.waiting[i].event);
         }
     }
-}
-
-/// The events of a segment from its left end on, by what its left and old right end are linked to now.
-fn chain((left, right): &(Event, Event), made: &[Event]) -> Vec<Event> {
-    let (after_left, before_right) = (mate(left), mate(right));
-    if is(&after_left, right) {
-        return vec![left.clone(), right.clone()];
-    }
-    let is_made = |event: &Event| made.iter().any(|m| is(m, event));
-    let between = made.iter().find(|event| {
-        !is(event, &after_left) && !is(event, &before_right) && event.point == after_left.point && is_made(&mate(event))
-    });
-    let mut events = vec![left.clone(), after_left];
-    if let Some(event) = between {
-        events.extend([event.clone(), mate(event)]);
-    }
-    events.extend([before_right, right.clone()]);
-    events
-}
-
-/// Refusal 7 for one of the divisions of a segment, or a crossing that is lost.
-fn is_refused(segment: &(Event, Event), made: &[Event]) -> bool {
-    let chain = chain(segment, made);
-    let right = segment.1.point;
-    let limit = 2f64.powi(100);
-    let misses = |left: &Event, cut: &Event| {
-        let p = cut.point;
-        p == left.point
-            || p == right
-            || !(left.point.x <= p.x && p.x <= right.x && p.x.abs() <= limit && p.y.abs() <= limit)
-            || !left.is_left()
-    };
-    (0..chain.len() - 2).step_by(2).any(|i| misses(&chain[i], &chain[i + 1]))
 }

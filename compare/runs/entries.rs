@@ -13,13 +13,14 @@ pub struct Bridge {
     from: BufReader<ChildStdout>,
 }
 
-#[derive(Default)]
+#[derive(Clone)]
 pub struct Pool {
     pub points: Vec<[f64; 2]>,
     pub marks: Vec<[u32; 12]>,
 }
 
 /// What the numbers of a record mean.
+#[derive(PartialEq)]
 pub struct Record {
     pub point: [f64; 2],
     pub left: bool,
@@ -31,6 +32,7 @@ pub struct Record {
     pub transition: u32,
     pub in_out: bool,
     pub other_in_out: bool,
+    pub contour: Option<u32>,
 }
 
 impl Pool {
@@ -51,10 +53,16 @@ impl Pool {
             transition: m[7],
             in_out: m[8] == 1,
             other_in_out: m[9] == 1,
+            contour: (m[10] == 1).then_some(m[11]),
         }
+    }
+
+    pub fn records(&self) -> impl Iterator<Item = Record> + '_ {
+        (0..self.points.len()).map(|i| self.record(i))
     }
 }
 
+#[derive(Clone)]
 pub struct Swept {
     /// The records in use, and those taken in their order.
     pub pool: Pool,
@@ -65,7 +73,10 @@ pub struct Swept {
     pub refused: Option<Refused>,
 }
 
+#[derive(Clone)]
 pub struct Connected {
+    /// What is left of the pool's marks.
+    pub marks: Vec<[u32; 12]>,
     pub corners: Vec<[f64; 2]>,
     pub contours: Vec<[u32; 6]>,
     pub holes: Vec<u32>,
@@ -123,6 +134,7 @@ impl Bridge {
         let [number, place]: [u64; 2] = self.words();
         let [contours, corners, holes, unclosed]: [u32; 4] = self.marks();
         Connected {
+            marks: pool.marks.iter().map(|_| self.marks()).collect(),
             corners: (0..corners).map(|_| self.numbers()).collect(),
             contours: (0..contours).map(|_| self.marks()).collect(),
             holes: (0..holes).map(|_| self.marks::<1>()[0]).collect(),

@@ -3,9 +3,28 @@ use super::boolean::leaves::SweepEvent;
 use super::boolean::BoundingBox;
 use geo_types::Coordinate;
 use inputs::sheets::Edge;
+use std::collections::HashMap;
 use std::rc::{Rc, Weak};
 
 pub type Event = Rc<SweepEvent<f64>>;
+
+/// The number of each event of a list: an event is told by which it is, not by what it holds.
+pub struct Numbers(HashMap<*const SweepEvent<f64>, usize>);
+
+impl Numbers {
+    pub fn of<'a>(list: impl IntoIterator<Item = &'a Event>) -> Numbers {
+        Numbers(list.into_iter().enumerate().map(|(i, event)| (Rc::as_ptr(event), i)).collect())
+    }
+
+    pub fn get(&self, event: &Event) -> Option<usize> {
+        self.0.get(&Rc::as_ptr(event)).copied()
+    }
+
+    /// Whether the event is new, or already has this number.
+    pub fn put(&mut self, event: &Event, number: usize) -> bool {
+        *self.0.entry(Rc::as_ptr(event)).or_insert(number) == number
+    }
+}
 
 /// Two events that are each other's partners; the first has the flag `left`.
 pub fn partners(from: Coordinate<f64>, to: Coordinate<f64>, left: bool, subject: bool, ring: u32) -> [Event; 2] {

@@ -49,10 +49,15 @@ fn usage() -> ! {
 fn compare(count: u64, seed: u64, bridge: &[String]) -> bool {
     let mut rows = published::pass::compare(count, seed, bridge);
     rows.extend(wrapped::pass::compare(count, seed, bridge));
-    println!("| whole runs | compared | differing | of these, and beside them |");
-    println!("|---|---|---|---|");
+    println!("| whole runs | compared | differing | of these, and beside them | rests on |");
+    println!("|---|---|---|---|---|");
     rows.iter().for_each(Row::print);
-    rows.iter().all(Row::is_good)
+    println!("\n| whole runs | lies that were told in the place of a right answer, and how many of them were found |");
+    println!("|---|---|");
+    rows.iter().for_each(Row::print_lies);
+    let missed: Vec<String> = rows.iter().flat_map(Row::lies_not_found).collect();
+    missed.iter().for_each(|line| println!("{line}"));
+    rows.iter().all(Row::is_good) && missed.is_empty()
 }
 
 fn print_map(map: fn(&str) -> Result<(String, Vec<String>), String>) -> bool {

@@ -1,26 +1,81 @@
-//! The map of a sheet by the Rust, for expected texts: nothing of ours has a part in it.
+//! What a sheet gives by the Rust, map or refusal, for expected texts: nothing of ours has a part in it.
 use super::boolean::Operation;
-use super::texts::{map_text, operation_word, refused, Theirs, LAYERS, POOL};
-use super::{clean, contours, sweep, OPERATIONS};
+use super::contours::{by_the_rust, Theirs};
+use super::entries::Refused;
+use super::events::{Event, Numbers};
+use super::texts::{map_text, operation_word, LAYERS};
+use super::{clean, sweep, OPERATIONS};
 use inputs::sheets::{Edge, Sheet};
 
-/// What a sheet gives, and what is to be known of it; or why it gives nothing.
+/// Edges of a sheet and places of its pool.
+const MAX_EDGES: usize = 256;
+const POOL: usize = 1024;
+
+/// Who made the list that was connected.
+pub enum By {
+    Subdivide,
+    /// Where a run is not clean, 01's rules over the Rust's leaves.
+    Rules,
+}
+
+impl By {
+    pub fn words(&self) -> &'static str {
+        match self {
+            By::Subdivide => "by subdivide",
+            By::Rules => "by the rules",
+        }
+    }
+}
+
+pub struct Expected {
+    pub answer: Result<String, Refused>,
+    pub by: By,
+}
+
+/// The map of a clean run, if it is not refused as a sheet; it depends on no numbering.
+pub fn of_a_clean_run(sheet: &[Edge], divisions: usize, theirs: &Theirs) -> Option<String> {
+    let fits = sheet.len() <= MAX_EDGES && 2 * (sheet.len() + divisions) <= POOL;
+    (fits && theirs.refused.is_none()).then(|| map_text(&theirs.contours))
+}
+
+/// Of edges that load, subject first.
+pub fn expected(sheet: &[Edge], operation: Operation) -> Expected {
+    // The line of the count that passes the limit: the second is after the subject's edges.
+    let subject = sheet.iter().filter(|e| e.subject).count();
+    if sheet.len() > MAX_EDGES {
+        let line = if subject > MAX_EDGES { 2 } else { 3 + subject };
+        return Expected { answer: Err((1, line as u64)), by: By::Rules };
+    }
+    let run = clean::sweep(sheet, operation, POOL);
+    if let Some(refused) = run.refused {
+        return Expected { answer: Err(refused), by: By::Rules };
+    }
+    if run.unclean.is_some() {
+        return Expected { answer: connected(&run.taken, &run), by: By::Rules };
+    }
+    Expected { answer: connected(&sweep::by_the_rust(sheet, operation).taken, &run), by: By::Subdivide }
+}
+
+/// Events that are listed stand at the places of the run's, whose numbers are known.
+fn connected(listed: &[Event], run: &clean::Run) -> Result<String, Refused> {
+    let theirs = by_the_rust(listed);
+    let (places, numbers) = (Numbers::of(listed), Numbers::of(&run.all));
+    let number = |event: &Event| numbers.get(&run.taken[places.get(event)?]);
+    match theirs.refused {
+        None => Ok(map_text(&theirs.contours)),
+        Some(struck) => Err(struck.told(number)),
+    }
+}
+
+/// What a sheet's text gives, and what is to be known of it; or why nothing is known.
 pub fn map(text: &str) -> Result<(String, Vec<String>), String> {
     let (operation, sheet) = read(text).ok_or("no sheet")?;
-    if !sheet.iter().all(loads) {
-        return Err("an edge is refused on loading".to_string());
+    if let Some((number, edge)) = sheet.iter().enumerate().find_map(|(i, edge)| Some((strikes(edge)?, i))) {
+        return Ok((format!("refused {number} at {edge}\n"), vec![]));
     }
-    let run = clean::sweep(&sheet, operation, POOL);
-    if run.refused {
-        return Err("the run is refused".to_string());
-    }
-    let rusts = sweep::by_the_rust(&sheet, operation);
-    let is_clean = run.unclean.is_none();
-    let (listed, divisions) = if is_clean { (&rusts.taken, rusts.divisions) } else { (&run.taken, run.divisions) };
-    let theirs = Theirs { listed, divisions, contours: contours::by_the_rust(listed) };
-    match (refused(&sheet, &theirs), &theirs.contours) {
-        (None, Some(contours)) => Ok((map_text(contours), remarks(&run, &map_text(contours)))),
-        (number, _) => Err(format!("refused by {}", number.unwrap_or(9))),
+    match expected(&sheet, operation).answer {
+        Ok(map) => Ok((map.clone(), remarks(&clean::sweep(&sheet, operation, POOL), &map))),
+        Err((number, place)) => Ok((format!("refused {number} at {place}\n"), vec![])),
     }
 }
 
@@ -53,7 +108,14 @@ fn read_edge(line: &str, subject: bool) -> Option<Edge> {
     Some(Edge { subject, ring: ring.parse().ok()?, from: [ax, ay], to: [bx, by] })
 }
 
-fn loads(edge: &Edge) -> bool {
+/// Refusals of loading.
+fn strikes(edge: &Edge) -> Option<u64> {
     let numbers = [edge.from, edge.to].concat();
-    numbers.iter().all(|x| x.abs() <= 2f64.powi(100)) && edge.from != edge.to
+    if !numbers.iter().all(|x| x.abs() <= 2f64.powi(100)) {
+        Some(2)
+    } else if edge.from == edge.to {
+        Some(3)
+    } else {
+        None
+    }
 }

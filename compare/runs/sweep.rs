@@ -1,16 +1,17 @@
-//! The sweep beside the Rust's `subdivide`, on the same edges.
+//! The sweep beside the Rust's `subdivide`, and beside 01's rules over its leaves, on the same edges.
 use super::boolean::leaves::{subdivide, EdgeType, ResultTransition};
 use super::boolean::Operation;
-use super::entries::{Pool, Record, Swept};
-use super::events::{bounds, is, load, mate, Event};
+use super::clean::Run;
+use super::entries::{Record, Swept};
+use super::events::{bounds, load, mate, Event, Numbers};
 use inputs::sheets::Edge;
 use std::collections::BinaryHeap;
 
-/// The Rust's run: the events taken, and all that keeps them alive.
+/// The Rust's run: the events taken, and those that still wait after an early stop.
 pub struct Theirs {
     pub taken: Vec<Event>,
     pub divisions: usize,
-    _rest: BinaryHeap<Event>,
+    rest: Vec<Event>,
 }
 
 pub fn by_the_rust(sheet: &[Edge], operation: Operation) -> Theirs {
@@ -19,41 +20,10 @@ pub fn by_the_rust(sheet: &[Edge], operation: Operation) -> Theirs {
     let mut queue: BinaryHeap<Event> = events.into_iter().collect();
     let taken = subdivide(&mut queue, &subject, &clip, operation);
     let divisions = (taken.len() + queue.len()) / 2 - sheet.len();
-    Theirs { taken, divisions, _rest: queue }
+    Theirs { taken, divisions, rest: queue.into_vec() }
 }
 
-/// What of an event must be equal; a below link by where it stands in the taken list.
-#[derive(PartialEq, Debug)]
-pub struct Told {
-    point: [f64; 2],
-    mate: [f64; 2],
-    left: bool,
-    subject: bool,
-    ring: u32,
-    edge_type: u32,
-    transition: u32,
-    in_out: bool,
-    other_in_out: bool,
-    below: Option<usize>,
-}
-
-fn told(event: &Event, taken: &[Event]) -> Told {
-    let other = mate(event).point;
-    Told {
-        point: [event.point.x, event.point.y],
-        mate: [other.x, other.y],
-        left: event.is_left(),
-        subject: event.is_subject,
-        ring: event.contour_id,
-        edge_type: edge_type_number(event.get_edge_type()),
-        transition: transition_number(event.get_result_transition()),
-        in_out: event.is_in_out(),
-        other_in_out: event.is_other_in_out(),
-        below: event.get_prev_in_result().and_then(|below| taken.iter().position(|e| is(e, &below))),
-    }
-}
-
-fn edge_type_number(t: EdgeType) -> u32 {
+pub fn edge_type_number(t: EdgeType) -> u32 {
     match t {
         EdgeType::Normal => 0,
         EdgeType::NonContributing => 1,
@@ -70,26 +40,109 @@ pub fn transition_number(t: ResultTransition) -> u32 {
     }
 }
 
-fn told_of_ours(pool: &Pool, r: usize, taken: &[u32]) -> Told {
-    let record: Record = pool.record(r);
-    Told {
-        point: record.point,
-        mate: pool.points[record.partner],
-        left: record.left,
-        subject: record.subject,
-        ring: record.ring,
-        edge_type: record.edge_type,
-        transition: record.transition,
-        in_out: record.in_out,
-        other_in_out: record.other_in_out,
-        below: record.below.and_then(|below| taken.iter().position(|t| *t as usize == below)),
-    }
+pub fn contour_number(event: &Event) -> Option<u32> {
+    event.get_output_contour_id().try_into().ok()
 }
 
-/// Whether both took the same events, with the same classes, and divided as often.
-pub fn is_alike(theirs: &[Event], divisions: usize, swept: &Swept) -> bool {
-    let ours = &swept.taken;
-    theirs.len() == ours.len()
-        && divisions == swept.divisions
-        && theirs.iter().zip(ours).all(|(e, r)| told(e, theirs) == told_of_ours(&swept.pool, *r as usize, ours))
+/// An event as a record; none where its partner or below link has no number.
+fn record(event: &Event, numbers: &Numbers) -> Option<Record> {
+    let below = match event.get_prev_in_result() {
+        None => None,
+        Some(below) => Some(numbers.get(&below)?),
+    };
+    Some(Record {
+        point: [event.point.x, event.point.y],
+        left: event.is_left(),
+        subject: event.is_subject,
+        ring: event.contour_id,
+        partner: numbers.get(&mate(event))?,
+        below,
+        edge_type: edge_type_number(event.get_edge_type()),
+        transition: transition_number(event.get_result_transition()),
+        in_out: event.is_in_out(),
+        other_in_out: event.is_other_in_out(),
+        contour: contour_number(event),
+    })
+}
+
+/// By the rules every event has its number: all is equal, and so is a refusal, and what was done before it.
+pub fn is_the_rules(run: &Run, swept: &Swept) -> bool {
+    let numbers = Numbers::of(&run.all);
+    run.refused == swept.refused
+        && run.tied == swept.tied
+        && run.divisions == swept.divisions
+        && run.all.len() == swept.used
+        && run.taken.iter().map(|event| numbers.get(event)).eq(swept.taken.iter().map(|r| Some(*r as usize)))
+        && run.all.iter().zip(swept.pool.records()).all(|(event, ours)| record(event, &numbers) == Some(ours))
+}
+
+/// The Rust's events have no numbers: those taken have that of ours at the same place of the list, and from these on
+/// partners and below links lead to each other. What no link leads to, after an early stop, is equal by value.
+pub fn is_the_rusts(theirs: &Theirs, swept: &Swept) -> bool {
+    let told = theirs.taken.len() == swept.taken.len()
+        && theirs.divisions == swept.divisions
+        && theirs.taken.len() + theirs.rest.len() == swept.used;
+    told && matched(theirs, swept).is_some_and(|(numbers, events)| {
+        let is_one = |(event, ours): (&Option<Event>, Record)| match event {
+            Some(event) => record(event, &numbers) == Some(ours),
+            None => true,
+        };
+        events.iter().zip(swept.pool.records()).all(is_one) && rest_of_theirs(theirs, &numbers) == rest_of_ours(swept, &events)
+    })
+}
+
+/// Our number of each event that a link leads to, and the event of each number; none where two have one.
+fn matched(theirs: &Theirs, swept: &Swept) -> Option<(Numbers, Vec<Option<Event>>)> {
+    let mut numbers = Numbers::of([]);
+    let mut events = vec![None; swept.used];
+    let mut pairs: Vec<(Event, usize)> =
+        theirs.taken.iter().cloned().zip(swept.taken.iter().map(|r| *r as usize)).collect();
+    while let Some((event, r)) = pairs.pop() {
+        if !numbers.put(&event, r) {
+            return None;
+        }
+        match events.get_mut(r)? {
+            Some(known) if super::events::is(known, &event) => continue,
+            Some(_) => return None,
+            free => *free = Some(event.clone()),
+        }
+        let ours = swept.pool.record(r);
+        pairs.push((mate(&event), ours.partner));
+        match (event.get_prev_in_result(), ours.below) {
+            (None, None) => (),
+            (Some(below), Some(number)) => pairs.push((below, number)),
+            _ => return None,
+        }
+    }
+    Some((numbers, events))
+}
+
+/// An end of an edge that nothing was done to but its loading and its divisions.
+type Rest = ([u64; 4], bool, bool, u32);
+
+fn rest([x, y]: [f64; 2], [px, py]: [f64; 2], left: bool, subject: bool, ring: u32) -> Rest {
+    ([x, y, px, py].map(|number| (number + 0.0).to_bits()), left, subject, ring)
+}
+
+fn rest_of_theirs(theirs: &Theirs, numbers: &Numbers) -> Vec<Rest> {
+    let free = theirs.rest.iter().filter(|event| numbers.get(event).is_none());
+    let end = |e: &Event| {
+        let other = mate(e).point;
+        rest([e.point.x, e.point.y], [other.x, other.y], e.is_left(), e.is_subject, e.contour_id)
+    };
+    sorted(free.map(end).collect())
+}
+
+fn rest_of_ours(swept: &Swept, events: &[Option<Event>]) -> Vec<Rest> {
+    let free = swept.pool.records().zip(events).filter(|(_, event)| event.is_none());
+    let end = |(r, _): (Record, _)| {
+        let other = swept.pool.points.get(r.partner).copied().unwrap_or([f64::NAN; 2]);
+        rest(r.point, other, r.left, r.subject, r.ring)
+    };
+    sorted(free.map(end).collect())
+}
+
+fn sorted(mut list: Vec<Rest>) -> Vec<Rest> {
+    list.sort();
+    list
 }

@@ -62,6 +62,7 @@ class Bridge:
         self.put(struct.pack("<6I", CONNECT, used, taken, POOL, POOL, POOL), *records)
         number, place = self.get("2Q")
         contours, corners, holes, _ = self.get("4I")
+        self.get(f"{48 * used}s")
         points = self.rows(corners, "2d")
         found = self.rows(contours, "6I")
         hole_numbers = self.get(f"{holes}I")
