@@ -158,6 +158,18 @@ fn is_one(contour: &Contour<f64>, [first, end, parent, depth, first_hole, holes]
         && contour.depth == depth as i32
 }
 
+/// What of the below links of a list no sweep makes.
+pub fn kinds_of_links(listed: &[Event]) -> Vec<&'static str> {
+    let numbers = Numbers::of(listed);
+    let links: Vec<(&Event, Event)> = listed.iter().filter_map(|event| Some((event, event.get_prev_in_result()?))).collect();
+    let later = links.iter().any(|(event, below)| event.is_before(below));
+    let unlisted = links.iter().any(|(_, below)| numbers.get(below).is_none());
+    [(later, "below links to later edges"), (unlisted, "below links to unlisted edges")]
+        .into_iter()
+        .filter_map(|(is_there, kind)| is_there.then_some(kind))
+        .collect()
+}
+
 /// Result edges of a list: one for each left end.
 pub fn result_edges(listed: &[Event]) -> usize {
     listed.iter().filter(|event| event.is_left() && is_result(event)).count()

@@ -1,6 +1,7 @@
 //! Whole runs: runs COUNT SEED BRIDGE.... The archive's sweep and connection in both modes, and its sheets, behind the
 //! command BRIDGE, beside the Rust on the same inputs. Exit status 1 if any differ.
-//! runs map MODE < SHEET prints the map of a sheet by the Rust.
+//! runs map MODE < SHEET prints what a sheet gives by the Rust, map or refusal.
+//! runs nesting COUNT SEED counts the maps whose parents and depths are wrong.
 mod row;
 
 use row::Row;
@@ -32,6 +33,10 @@ fn main() {
     let is_good = match &words[..] {
         [word, mode] if word == "map" && mode == "plain" => print_map(published::pass::maps::map),
         [word, mode] if word == "map" && mode == "ordered" => print_map(wrapped::pass::maps::map),
+        [word, count, seed] if word == "nesting" => match (count.parse(), seed.parse()) {
+            (Ok(count), Ok(seed)) => wrapped::pass::nesting::print(count, seed),
+            _ => usage(),
+        },
         [count, seed, bridge @ ..] if !bridge.is_empty() => match (count.parse(), seed.parse()) {
             (Ok(count), Ok(seed)) => compare(count, seed, bridge),
             _ => usage(),
@@ -42,7 +47,7 @@ fn main() {
 }
 
 fn usage() -> ! {
-    eprintln!("usage: runs COUNT SEED BRIDGE... | runs map plain|ordered < SHEET");
+    eprintln!("usage: runs COUNT SEED BRIDGE... | runs map plain|ordered < SHEET | runs nesting COUNT SEED");
     std::process::exit(2)
 }
 

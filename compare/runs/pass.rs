@@ -7,7 +7,9 @@ mod lies;
 mod lists;
 pub mod maps;
 mod meeting;
-
+// Counted of the wrapped Rust only.
+#[allow(dead_code)]
+pub mod nesting;
 mod sweep;
 mod texts;
 
@@ -109,6 +111,7 @@ fn compare_list(i: u64, listed: &[Event], bridge: &mut Bridge, random: &mut Rand
     if let Some((number, _)) = ours.refused {
         row.count(&format!("refused {number}"));
     }
+    contours::kinds_of_links(listed).into_iter().for_each(|kind| row.count(kind));
     if contours::result_edges(listed) >= 100 {
         row.count("100 result edges or more");
     }
