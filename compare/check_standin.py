@@ -1,4 +1,5 @@
-"""Holds the stand-in for `robust` to whole numbers: check_standin.py CALLS ANSWERS, of `orient` calls."""
+"""Holds the stand-in for `robust` to whole numbers: check_standin.py CALLS ANSWERS, of `orient` calls. Each right answer is
+also told wrong, which must be found."""
 import sys
 
 
@@ -17,16 +18,24 @@ def sign(words):
     return (area > 0) - (area < 0)
 
 
+def is_sign(answer, words):
+    return answer == str(sign(words))
+
+
 def main(calls, answers):
-    checked = wrong = 0
+    checked = wrong = lies = found = 0
     with open(calls) as call_lines, open(answers) as answer_lines:
         for call, answer in zip(call_lines, answer_lines, strict=True):
             checked += 1
-            if answer.strip() != str(sign(call.split()[1:])):
+            answer, words = answer.strip(), call.split()[1:]
+            if not is_sign(answer, words):
                 wrong += 1
-                print(f"stand-in: {call.strip()} gives {answer.strip()}")
-    print(f"stand-in robust against whole numbers: {checked} checked, {wrong} differing")
-    return 1 if wrong or not checked else 0
+                print(f"stand-in: {call.strip()} gives {answer}")
+                continue
+            lies += 1
+            found += not is_sign({"-1": "0", "0": "1", "1": "-1"}[answer], words)
+    print(f"stand-in robust against whole numbers: {checked} checked, {wrong} differing; lies found {found} of {lies}")
+    return 0 if checked and not wrong and found == lies else 1
 
 
 if __name__ == "__main__":

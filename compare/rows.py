@@ -1,6 +1,7 @@
 """The rows of the comparison: rows.py FOLDER NAME..., over FOLDER/NAME.calls, .rust and .ours.
 
-One row a function. Exit status 1 if a line differs or is missing, or nothing was compared."""
+One row a function. To each, lies are told in the place of right answers. Exit status 1 if a line differs or is missing,
+nothing was compared, or a lie is not found."""
 import itertools
 import math
 import struct
@@ -19,6 +20,8 @@ STAND_IN = {
 ORDERED = "ordered-"
 SHOWN = 5
 LIMIT = 2.0**100
+# Of each function lies are told on so many calls, and on all that are refused.
+LIED = 2000
 
 
 def plain_twin(function):
@@ -42,30 +45,42 @@ def chains(answer):
 
 
 def is_refused(left, right, cut):
-    """Refusal 7 of one division, the cut as it is after the move."""
+    """Refusal 7 of one division, the cut as it is after the move; what is divided must be a left end."""
     x, y = cut[:2]
     at_end = cut[:2] in (left[:2], right[:2])
-    return at_end or not left[0] <= x <= right[0] or not (abs(x) <= LIMIT and abs(y) <= LIMIT)
+    return not left[2] or at_end or not left[0] <= x <= right[0] or not (abs(x) <= LIMIT and abs(y) <= LIMIT)
 
 
-def must_refuse(function, call, rust):
-    """Whether the rules refuse a call that the Rust answers."""
+def refusal(function, call, rust):
+    """What 01 says to a call that the Rust answers and 01 refuses; the records are numbered as `calls` does."""
     function = plain_twin(function)
     if function == "divide":
         lx, ly, rx, ry = map(number, call.split()[1:5])
         _, x, y = rust.split()[:3]
-        return is_refused((lx, ly), (rx, ry), (number(x), number(y)))
+        return "refused 7 at 0" if is_refused((lx, ly, True), (rx, ry), (number(x), number(y))) else None
     if function == "neigh":
-        return rust == "lost" or any(refused_chain(chain) for chain in chains(rust))
-    return False
+        # Lost is told at the first of the pair.
+        return "refused 7 at 0" if rust == "lost" else refused_meeting(rust)
+    return None
 
 
-def refused_chain(chain):
-    """Each division cuts what goes from a left end, which must be one, to the old right end."""
-    return any(
-        is_refused(left, chain[-1], cut) or not left[2]
-        for left, cut in zip(chain[:-2:2], chain[1:-2:2])
-    )
+def refused_meeting(rust):
+    """The first division that is refused, at the record to be divided."""
+    first, second = (divisions(chain, record) for chain, record in zip(chains(rust), (0, 2)))
+    starts = [chain[0][:2] for chain in chains(rust)]
+    # Of two that overlap the one that starts first is cut first.
+    is_second_first = rust.startswith("code 3") and starts[1] < starts[0]
+    for record, left, cut, right in second + first if is_second_first else first + second:
+        if is_refused(left, right, cut):
+            return f"refused 7 at {record}"
+    return None
+
+
+def divisions(chain, record):
+    """The divisions of a segment that is told by its events: each cuts what goes from a left end to the old right end."""
+    # Where a segment is cut twice, the new left end of the first cut is record 5, after the four of the call.
+    records = (record, 5)
+    return [(records[i], chain[2 * i], chain[2 * i + 1], chain[-1]) for i in range(len(chain) // 2 - 1)]
 
 
 def is_moved(left, cut):
@@ -101,38 +116,80 @@ def neigh_kind(words, both):
     return f"code {words[1]}{types} {pieces}{moved}{swapped}"
 
 
+def is_alike(wanted, ours):
+    return None not in (wanted, ours) and "malformed" not in (wanted, ours) and zeros_alike(wanted) == zeros_alike(ours)
+
+
+def changed_end(answer):
+    return answer[:-1] + ("1" if answer[-1] != "1" else "0")
+
+
+# Wrong answers by their names, each from a right one and the last right one that differs from it; None where it is none.
+LIES = {
+    "another call's answer": lambda answer, other: other,
+    "a last digit": lambda answer, other: changed_end(answer),
+    "no answer": lambda answer, other: "",
+    "refused by 99 at 12345": lambda answer, other: "refused 99 at 12345",
+    "another place": lambda answer, other: changed_end(answer) if answer.startswith("refused") else None,
+    "answered": lambda answer, other: answer.replace("refused", "point") if answer.startswith("refused") else None,
+}
+
+
 class Row:
     def __init__(self):
         self.compared = self.differing = 0
         self.refused, self.skipped, self.kinds = Counter(), Counter(), Counter()
+        self.told, self.found = Counter(), Counter()
+        self.right = []
         self.shown = []
 
     def add(self, function, call, rust, ours):
         if rust == "panicked":
             self.skipped["the Rust panicked"] += 1
-        elif rust not in (None, "malformed") and ours is not None and must_refuse(function, call, rust):
-            if ours.startswith("refused 7 at "):
-                self.refused["7"] += 1
-            else:
-                self.differ(call, "refused 7", ours)
-        elif None in (rust, ours) or "malformed" in (rust, ours) or zeros_alike(rust) != zeros_alike(ours):
-            self.differ(call, rust, ours)
+            return
+        self.compared += 1
+        refused = None if rust in (None, "malformed") or call is None else refusal(function, call, rust)
+        wanted = refused or rust
+        if not is_alike(wanted, ours):
+            self.differ(call, wanted, ours)
+            return
+        if refused:
+            self.refused[refused.split()[1]] += 1
         else:
-            self.compared += 1
             self.kinds[kind(function, call, rust)] += 1
+        if self.compared <= LIED or refused:
+            self.lie(wanted)
+
+    def lie(self, wanted):
+        # Two right answers that are not alike: one of them is another one than this.
+        if len(self.right) < 2 and not any(is_alike(wanted, answer) for answer in self.right):
+            self.right.append(wanted)
+        other = next((answer for answer in self.right if not is_alike(wanted, answer)), None)
+        for name, tell in LIES.items():
+            wrong = tell(wanted, other)
+            if wrong is not None:
+                self.told[name] += 1
+                self.found[name] += not is_alike(wanted, wrong)
 
     def differ(self, call, rust, ours):
-        self.compared += 1
         self.differing += 1
         if len(self.shown) < SHOWN:
             self.shown.append(f"differs: {call}\n   Rust: {rust}\n   ours: {ours}")
+
+    def missed(self):
+        """The lies that were not found; none told is one as well."""
+        return [name for name in self.told if self.found[name] < self.told[name]] or ([] if self.told else ["none was told"])
+
+    def is_good(self):
+        return self.compared > 0 and self.differing == 0 and not self.missed()
 
     def text(self, function):
         counts = lambda counter: ", ".join(f"{name}: {n}" for name, n in sorted(counter.items())) or "-"
         twin = plain_twin(function)
         rests = f"stand-in {STAND_IN[twin]}" if twin in STAND_IN else "-"
-        cells = [function, self.compared, self.differing, counts(self.refused), counts(self.skipped)]
-        return "| " + " | ".join(map(str, cells + [counts(self.kinds), rests])) + " |"
+        lies = ", ".join(f"{name}: {self.found[name]} of {n}" for name, n in self.told.items())
+        cells = [function, self.compared, self.differing, counts(self.refused), counts(self.skipped), counts(self.kinds), rests, lies]
+        return "| " + " | ".join(map(str, cells)) + " |"
 
 
 def read(path):
@@ -148,15 +205,16 @@ def main(folder, *names):
         for call, rust, ours in itertools.zip_longest(*files):
             function = (call or "no call").split(" ", 1)[0]
             rows[function].add(function, call, rust, ours)
-    print("| function | compared | differing | refused | skipped | answers | rests on |")
-    print("|---|---|---|---|---|---|---|")
+    print("| function | compared | differing | refused | skipped | answers | rests on | lies found |")
+    print("|---|---|---|---|---|---|---|---|")
     for function, row in rows.items():
         print(row.text(function))
-    for row in rows.values():
+    for function, row in rows.items():
         for lines in row.shown:
             print(lines)
-    all_equal = rows and all(row.compared and not row.differing for row in rows.values())
-    return 0 if all_equal else 1
+        for name in row.missed():
+            print(f"{function}: a lie is not found, '{name}'")
+    return 0 if rows and all(row.is_good() for row in rows.values()) else 1
 
 
 if __name__ == "__main__":

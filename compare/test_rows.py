@@ -16,6 +16,13 @@ CUT = f"r {ONE} {HALF} 0 l {ONE} {HALF} 1 old 0"
 AT_END = f"r {TWO} {ONE} 0 l {TWO} {ONE} 0 old 1"
 # Two that overlap and share the right end: the first is cut at the second's left end.
 OVERLAP = f"code 3 normal normal new 2 chain {ZERO} {ZERO} 1 {ONE} {ZERO} 0 {ONE} {ZERO} 1 {TWO} {ZERO} 0 chain {ONE} {ZERO} 1 {TWO} {ZERO} 0"
+# What the Rust goes on to do where 01 refuses: the second is cut at its own right end; both are, and the second starts
+# first; the first is cut twice, the second time at the old right end.
+WHOLE = f"chain {ONE} {ZERO} 1 {TWO} {ZERO} 0"
+AT_SECOND = f"code 1 normal normal new 2 {WHOLE} chain {ZERO} {ONE} 1 {TWO} {ONE} 0 {TWO} {ONE} 1 {TWO} {ONE} 0"
+CUT_AT_END = f"{TWO} {ZERO} 0 {TWO} {ZERO} 1 {TWO} {ZERO} 0"
+AT_BOTH = f"code 3 normal normal new 4 chain {ONE} {ZERO} 1 {CUT_AT_END} chain {ZERO} {ZERO} 1 {CUT_AT_END}"
+AT_NEW = f"code 3 normal normal new 4 chain {ZERO} {ZERO} 1 {ONE} {ZERO} 0 {ONE} {ZERO} 1 {CUT_AT_END} {WHOLE}"
 
 # Calls, the Rust's answers, ours, and whether that is equal.
 CASES = [
@@ -35,6 +42,18 @@ CASES = [
     ([f"{DIVIDE} {ONE} {HALF} 1 0"], [CUT], ["refused 7 at 0"], False),
     ([f"{DIVIDE} {ONE} {HALF} 1 0", f"{DIVIDE} {TWO} {ONE} 1 0"], [CUT, AT_END], [CUT, "refused 7 at 0"], True),
     ([f"{DIVIDE} {TWO} {ONE} 1 0"], [AT_END], [AT_END], False),
+    ([f"{DIVIDE} {TWO} {ONE} 1 0"], [AT_END], ["refused 7 at 0"], True),
+    ([f"{DIVIDE} {TWO} {ONE} 1 0"], [AT_END], ["refused 7 at 1"], False),
+    ([f"{DIVIDE} {TWO} {ONE} 1 0"], [AT_END], ["refused 6 at 0"], False),
+    (["neigh"], [AT_SECOND], ["refused 7 at 2"], True),
+    (["neigh"], [AT_SECOND], ["refused 7 at 0"], False),
+    (["neigh"], [AT_BOTH], ["refused 7 at 2"], True),
+    (["neigh"], [AT_BOTH], ["refused 7 at 0"], False),
+    (["neigh"], [AT_BOTH.replace("code 3", "code 1")], ["refused 7 at 0"], True),
+    (["neigh"], [AT_NEW], ["refused 7 at 5"], True),
+    (["neigh"], [AT_NEW], ["refused 7 at 0"], False),
+    (["neigh"], ["lost"], ["refused 7 at 0"], True),
+    (["neigh"], ["lost"], ["refused 7 at 2"], False),
     (["neigh"], [OVERLAP], [OVERLAP], True),
     (["neigh"], [OVERLAP], ["refused 7 at 0"], False),
     ([f"ordered-{CROSS}"], [f"point {ONE} {ONE}"], [f"point {ONE} {ONE}"], True),

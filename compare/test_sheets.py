@@ -2,6 +2,7 @@
 import contextlib
 import io
 import os
+import re
 import sys
 
 sys.dont_write_bytecode = True
@@ -86,19 +87,31 @@ def with_refusal(change):
     return wrong
 
 
-WRONG = [
-    with_refusal(lambda refused: model.Refused(refused.number, refused.place - 1).text()),
-    with_refusal(lambda refused: b"refused 10 at %d\n" % refused.place if refused.number == 1 else refused.text()),
-    with_refusal(lambda refused: MAP if refused.number == 5 else refused.text()),
-    lambda data, room: entry(data.replace(b" \n", b"\n"), room),
-    lambda data, room: entry(data.replace(b"\r\n", b"\n"), room),
-    lambda data, room: entry(data.lower(), room),
-    lambda data, room: entry(data if data.endswith(b"\n") else data + b"\n", room),
-    lambda data, room: entry(data[:1000], room),
-    lambda data, room: entry(data, room).replace(b"depth 1", b"depth 0"),
-    lambda data, room: entry(data, room)[:-1],
-    lambda data, room: b"",
-]
+# What both read wrong, or tell wrong.
+READ = {
+    "spaces at the end of a line": lambda data: data.replace(b" \n", b"\n"),
+    "carriage returns": lambda data: data.replace(b"\r\n", b"\n"),
+    "upper-case digits": lambda data: data.lower(),
+    "a last line without its line feed": lambda data: data if data.endswith(b"\n") else data + b"\n",
+    "the first bytes alone": lambda data: data[:1000],
+}
+TOLD = {
+    "another depth": lambda text: text.replace(b"depth 1", b"depth 0"),
+    "no last line feed": lambda text: text[:-1],
+    "nothing": lambda text: b"",
+    "refused by 99 at 12345": lambda text: b"refused 99 at 12345\n" if text.startswith(b"refused") else text,
+    "the line before": lambda text: re.sub(rb"(?<= at )\d+", lambda line: b"%d" % (int(line[0]) - 1), text),
+}
+WRONG = {
+    "too many is malformed": with_refusal(lambda refused: b"refused 10 at %d\n" % refused.place if refused.number == 1 else refused.text()),
+    "a map without room": with_refusal(lambda refused: MAP if refused.number == 5 else refused.text()),
+    **{name: lambda data, room, read=read: entry(read(data), room) for name, read in READ.items()},
+    **{name: lambda data, room, tell=tell: tell(check.told(entry, data, room)) for name, tell in TOLD.items()},
+}
+WRONG_PROGRAM = {
+    **{name: lambda data, read=read: program(read(data)) for name, read in READ.items()},
+    **{name: lambda data, tell=tell: tell(program(data)) for name, tell in TOLD.items()},
+}
 
 
 def is_good(row):
@@ -118,7 +131,8 @@ numbers = range(600)
 assert is_good(lambda: check.compare_entry(numbers, 1, stages, entry))
 assert is_good(lambda: check.compare_program(numbers, 1, stages, program))
 assert not is_good(lambda: check.compare_entry(range(0), 1, stages, entry))
-for wrong in WRONG:
-    assert not is_good(lambda: check.compare_entry(numbers, 1, stages, wrong)), wrong
-assert not is_good(lambda: check.compare_program(numbers, 1, stages, lambda data: check.told(model.answer, data[:1000], stages)))
-print(f"sheets: {len(REFUSED)} refused as 01 says, {len(WRONG) + 2} wrong comparisons found")
+for name, wrong in WRONG.items():
+    assert not is_good(lambda: check.compare_entry(numbers, 1, stages, wrong)), f"not found: an entry that has {name}"
+for name, wrong in WRONG_PROGRAM.items():
+    assert not is_good(lambda: check.compare_program(numbers, 1, stages, wrong)), f"not found: a program that has {name}"
+print(f"sheets: {len(REFUSED)} refused as 01 says, {len(WRONG)} wrong entries and {len(WRONG_PROGRAM)} wrong programs found")

@@ -44,6 +44,17 @@ impl Crossed {
         Crossed { kind: list.len() as u64 / 2, corners }
     }
 
+    /// A wrong answer: another last digit, or lost for none and none for lost.
+    #[inline]
+    pub fn another(mut self) -> Self {
+        if self.kind == 0 || self.kind == 3 {
+            self.kind = 3 - self.kind;
+        } else {
+            self.corners[1] ^= 1;
+        }
+        self
+    }
+
     /// Minus zero as zero.
     pub fn zeros_alike(self) -> Self {
         let minus_zero = (-0.0f64).to_bits();

@@ -21,20 +21,42 @@ use inputs::families::scene;
 use inputs::random::Random;
 use inputs::Scene;
 
-#[derive(Default)]
-struct Row(u64);
+struct Row {
+    name: &'static str,
+    differing: u64,
+    /// Wrong answers that were told in the place of right ones, and those of them that were found.
+    lies: u64,
+    found: u64,
+}
 
 impl Row {
-    /// The first few that differ are shown, as bits.
-    fn add(&mut self, name: &str, s: Scene, is_alike: bool) {
-        self.0 += !is_alike as u64;
-        if !is_alike && self.0 <= 5 {
-            println!("linked: {name} differs: {:016x?}", s.map(|p| p.map(f64::to_bits)));
+    fn of(name: &'static str) -> Row {
+        Row { name, differing: 0, lies: 0, found: 0 }
+    }
+
+    /// An answer and a wrong one; the first few that differ are shown, as bits.
+    fn add<T>(&mut self, s: Scene, answer: T, lie: T, is_alike: impl Fn(&T) -> bool) {
+        if is_alike(&answer) {
+            self.lies += 1;
+            self.found += !is_alike(&lie) as u64;
+            return;
         }
+        self.differing += 1;
+        if self.differing <= 5 {
+            println!("linked: {} differs: {:016x?}", self.name, s.map(|p| p.map(f64::to_bits)));
+        }
+    }
+
+    fn print(&self, count: u64) {
+        let Row { name, differing, lies, found } = self;
+        println!("linked: {name}: compared {count}, differing {differing}; lies found {found} of {lies}");
+    }
+
+    fn is_good(&self) -> bool {
+        self.differing == 0 && self.lies > 0 && self.found == self.lies
     }
 }
 
-#[derive(Default)]
 struct Rows {
     orientation: Row,
     crossing: Row,
@@ -52,23 +74,27 @@ fn main() {
         std::process::exit(2)
     };
     let (mut random, mut signs) = (Random(seed), Random(!seed));
-    let mut rows = Rows::default();
+    let mut rows = Rows {
+        orientation: Row::of("orientation (stand-in robust)"),
+        crossing: Row::of("crossing"),
+        ordered: Row::of("ordered crossing, with the wrapped Rust"),
+        namings: Row::of("ordered crossing, eight namings and zeros of either sign"),
+        plain_namings: 0,
+        plain_values: 0,
+    };
     for i in 0..count {
         let s = scene(i, &mut random);
         compare(s, &mut rows);
         compare_namings(s, signs.bits() as u8, &mut rows);
     }
-    println!("linked: orientation compared {count}, differing {} (stand-in robust)", rows.orientation.0);
-    println!("linked: crossing compared {count}, differing {}", rows.crossing.0);
-    println!("linked: ordered crossing compared {count} with the wrapped Rust, differing {}", rows.ordered.0);
-    println!("linked: ordered crossing, eight namings and zeros of either sign: scenes {count}, differing {}", rows.namings.0);
+    let held = [&rows.orientation, &rows.crossing, &rows.ordered, &rows.namings];
+    held.iter().for_each(|row| row.print(count));
     println!(
         "linked: plain crossing, the same: {} of {count} scenes have a naming that differs, {} of them in more than a zero's sign",
         rows.plain_namings, rows.plain_values
     );
-    let held = [rows.orientation, rows.crossing, rows.ordered, rows.namings];
     // In the plain mode namings differ: if none is found, none is looked for.
-    if held.iter().any(|row| row.0 > 0) || rows.plain_namings == 0 {
+    if !held.iter().all(|row| row.is_good()) || rows.plain_namings == 0 {
         std::process::exit(1);
     }
 }
@@ -79,14 +105,20 @@ fn is_alike(ours: Option<Crossed>, theirs: Option<Crossed>) -> bool {
 }
 
 fn compare(s: Scene, rows: &mut Rows) {
-    rows.orientation.add("orientation", s, entries::orientation(s) == published::calls::orientation(s));
-    rows.crossing.add("crossing", s, is_alike(entries::crossing(s), published::calls::crossing(s)));
-    rows.ordered.add("ordered crossing", s, is_alike(entries::crossing_ordered(s), wrapped::calls::crossing(s)));
+    let (sign, wanted) = (entries::orientation(s), published::calls::orientation(s));
+    rows.orientation.add(s, sign, sign.map(|sign| if sign == 0 { 1 } else { 0 }), |sign| *sign == wanted);
+    let (crossed, wanted) = (entries::crossing(s), published::calls::crossing(s));
+    rows.crossing.add(s, crossed, crossed.map(Crossed::another), |crossed| is_alike(*crossed, wanted));
+    let (crossed, wanted) = (entries::crossing_ordered(s), wrapped::calls::crossing(s));
+    rows.ordered.add(s, crossed, crossed.map(Crossed::another), |crossed| is_alike(*crossed, wanted));
 }
 
 fn compare_namings(s: Scene, some: u8, rows: &mut Rows) {
     let ordered = namings::answers(s, some, entries::crossing_ordered);
-    rows.namings.add("a naming of ordered crossing", s, namings::is_one(&ordered));
+    let mut lie = ordered.clone();
+    let place = some as usize % lie.len();
+    lie[place] = lie[place].map(Crossed::another);
+    rows.namings.add(s, ordered, lie, |answers| namings::is_one(answers));
     let plain = namings::answers(s, some, entries::crossing);
     let values: Vec<_> = plain.iter().map(|answer| answer.map(Crossed::zeros_alike)).collect();
     rows.plain_namings += !namings::is_one(&plain) as u64;

@@ -29,13 +29,17 @@ impl Plan {
         let mut stages = Stages::of(&self.sheet, size);
         stages.run();
         let rings = Rings::of(&self.sheet);
-        let area = stages.area();
+        let peers = [rings.geos(), rings.clipper()];
+        let (corners, wanted) = (stages.corners(), theirs::corners(&self.sheet));
+        let is_area = |area: f64| peers.iter().all(|peer| (peer - area).abs() < 1e-4 * area);
+        // A wrong map, which must be found to differ.
+        let mut lie = corners.clone();
+        lie[0][0][0] = lie[0][0][0].next_up();
         Known {
             edges: self.sheet.len(),
             divisions: stages.divisions(),
             largest_status: stages.largest_status(),
-            alike: stages.corners() == theirs::corners(&self.sheet)
-                && [rings.geos(), rings.clipper()].iter().all(|peer| (peer - area).abs() < 1e-4 * area),
+            alike: corners == wanted && lie != wanted && is_area(stages.area()) && !is_area(1.001 * stages.area()),
         }
     }
 
