@@ -273,13 +273,24 @@ const NAMED_RINGS: &[&[Named]] = &[
 const NAMED_EDGES: [[Point; 2]; 4] =
     [[[2.0, 2.0], [2.0, 0.0]], [[3.0, 1.0], [2.0, 3.0]], [[3.0, 2.0], [1.0, 3.0]], [[3.0, 3.0], [0.0, 0.0]]];
 
+/// 8n edges and 8n^2 divisions: with n = 8 more than a sheet's pool has places for.
+fn strips_across_strips(n: u32, random: &mut Random) -> Sheet {
+    let far = 4.0 * n as f64;
+    let upright: Sheet =
+        (0..n).flat_map(|i| ring(&rectangle([4.0 * i as f64, 0.0], [2.0, far]), true, i, random)).collect();
+    let level = (0..n).flat_map(|i| ring(&rectangle([-1.0, 4.0 * i as f64 + 1.0], [far, 2.0]), false, i, random));
+    upright.into_iter().chain(level).collect()
+}
+
 /// At another scale, and with the layers in each other's place.
 fn named(random: &mut Random) -> Sheet {
-    let mut made = if random.one_in(3) {
-        NAMED_EDGES.map(|[from, to]| Edge { subject: true, ring: 0, from, to }).to_vec()
-    } else {
-        let rings = random.pick(NAMED_RINGS);
-        rings.iter().zip(0..).flat_map(|((subject, corners), number)| ring(corners, *subject, number, random)).collect()
+    let mut made = match random.below(24) {
+        0 => strips_across_strips(8, random),
+        1..8 => NAMED_EDGES.map(|[from, to]| Edge { subject: true, ring: 0, from, to }).to_vec(),
+        _ => {
+            let rings = random.pick(NAMED_RINGS);
+            rings.iter().zip(0..).flat_map(|((subject, corners), number)| ring(corners, *subject, number, random)).collect()
+        }
     };
     let scale = random.pick(&[1.0, 1.0, 0.5, 3.0, 2f64.powi(-20)]);
     let is_other_way = random.one_in(4);
