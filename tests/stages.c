@@ -546,14 +546,14 @@ static void connect_checks(void)
 }
 
 /* Two edges loaded and not swept, their records 0 to 3 the ends in the order given, so that no record is in a result; place 4 holds no end.
-   Listed is one record, or two. */
-static void two_loaded(size_t list, uint32_t first, uint32_t second)
+   The list begins with these records. */
+static void two_loaded(uint32_t first, uint32_t second)
 {
     no_edges();
     edge(1, 0, 0, 0, 1, 1);
     edge(1, 0, 1, 5, 0, 4);
     fill();
-    EXPECT(load(256) == 0 && list <= 2);
+    EXPECT(load(256) == 0);
     taken[0] = first;
     taken[1] = second;
     fill_outlines();
@@ -571,40 +571,39 @@ static void connect_partners(void)
 {
     const double above = nextafter(0x1p100, INFINITY);
     /* a listed left end at (0,0), its partner not listed: event order reads the partner's point */
-    two_loaded(1, 0, 99);
+    two_loaded(0, 99);
     EXPECT(connect_with(1, 1, NAN, 1) == 2 && place == 1 && all_as_lent());
-    two_loaded(1, 0, 99);
+    two_loaded(0, 99);
     EXPECT(connect_with(1, 1, 1, above) == 2 && place == 1 && all_as_lent());
-    two_loaded(1, 0, 99);
+    two_loaded(0, 99);
     EXPECT(connect_with(1, 1, 0x1p100, 1) == 0 && counts[0] == 0);
     /* the partner's number lower than the record's */
-    two_loaded(1, 1, 99);
+    two_loaded(1, 99);
     EXPECT(connect_with(1, 0, -INFINITY, 0) == 2 && place == 0 && all_as_lent());
-    two_loaded(1, 1, 99);
+    two_loaded(1, 99);
     pool.points[1][0] = NAN;
     EXPECT(connect_with(1, 0, NAN, 0) == 2 && place == 0 && all_as_lent());
     /* and higher */
-    two_loaded(1, 0, 99);
+    two_loaded(0, 99);
     pool.points[0][0] = NAN;
     EXPECT(connect_with(1, 1, NAN, 0) == 2 && place == 0 && all_as_lent());
     /* the lowest of all, wherever its edge is listed; before 4, which strikes record 0 */
-    two_loaded(2, 2, 0);
+    two_loaded(2, 0);
     pool.points[3][1] = NAN;
-    pool.marks[0][3] = 1;
     pool.marks[1][3] = 3;
     EXPECT(connect_with(2, 1, NAN, 1) == 2 && place == 1 && all_as_lent());
-    two_loaded(2, 0, 2);
+    two_loaded(0, 2);
     pool.marks[1][3] = 3;
     EXPECT(connect_with(2, 3, NAN, 4) == 2 && place == 3 && all_as_lent());
     /* nobody's partner */
-    two_loaded(1, 0, 99);
+    two_loaded(0, 99);
     pool.points[3][0] = NAN;
     EXPECT(connect_with(1, 4, NAN, NAN) == 0 && counts[0] == 0);
     /* a partner outside the pool, and the partner of a number outside it, are not looked at: 4 */
-    two_loaded(1, 0, 99);
+    two_loaded(0, 99);
     pool.marks[0][3] = 256;
     EXPECT(connect_with(1, 256, NAN, 0) == 4 && place == 0 && all_as_lent());
-    two_loaded(1, 256, 99);
+    two_loaded(256, 99);
     pool.marks[256][3] = 1;
     EXPECT(connect_with(1, 1, NAN, 1) == 4 && place == 256 && all_as_lent());
 }

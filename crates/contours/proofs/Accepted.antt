@@ -153,11 +153,11 @@ module _ {P : Type 0} (C : Coordinates P) (row : ℕ → Event P) (n : ℕ) (lis
   unfolding misplaced
   soundly e f = (sound-all e f, once-distinct list (λ r m. neither (twice list r) (mistaken C row n r) (told-none 4 (misplaced C row n list) list f r m) .0))
 
-  -- event order reads this point too
   fit-inside : (q : ℕ) → q < n → unfitAt C row n q ≡ false → C .fit (row q .point) ≡ true
   unfolding unfitAt
   fit-inside q h e = not-false _ (rw (not-outside n q h) at e)
 
+  -- event order reads these points too
   others-fit : FitEnds → ((r : ℕ) → List·Memᴰ r list → Sound C row n r) → (r : ℕ) → List·Memᴰ r list → C .fit (row (row r .partner) .point) ≡ true
   others-fit e h r m =
       fit-inside (row r .partner) (h r m .partner) (told-none 2 _ (named row n list) e (row r .partner) (partner-named row n list r (h r m .inside) m))
