@@ -114,7 +114,7 @@ sized points marks = cond (missized points marks) (Refused sizeRefusal) Passed
 unfoldable pub checked : {P : Type 0} → Coordinates P → (ℕ → Event P) → ℕ → List ℕ → Check
 checked C row n rs = andThen (told 2 (unfitAt C row n) rs) (told 4 (mistaken C row n) rs)
 
--- ---- the records that an entry on single records looks at
+-- ---- the records that an entry on single records looks at, and connection by 2
 
 -- A record's partner. A number outside the pool has none: it stands for itself, so that it is looked at twice and nothing else is.
 unfoldable pub mate : {P : Type 0} → (ℕ → Event P) → ℕ → ℕ → ℕ

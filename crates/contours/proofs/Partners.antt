@@ -9,7 +9,7 @@ use lib.Dec.{ltb}
 use Rattle.events.specs.Event.{Event}
 use Rattle.events.specs.Renaming.{rename}
 use Rattle.checks.specs.Checks.{outside, mate, named}
-use Rattle.checks.proofs.Unstruck.{not-outside}
+use Rattle.checks.proofs.Named.{mate-inside}
 use Rattle.contours.specs.Connect.{withContour}
 use Rattle.contours.specs.Renaming.{Renumbered, Relisted}
 
@@ -24,13 +24,9 @@ module _ {P : Type 0} (row : ℕ → Event P) (n : ℕ) where
   mate-named l r (List·Memᴰ·head e) = List·Memᴰ·tail (List·Memᴰ·head (ap (mate row n) e))
   mate-named l r (List·Memᴰ·tail {xs = xs} m) = List·Memᴰ·tail (List·Memᴰ·tail (mate-named xs r m))
 
-  mate-inside : (r : ℕ) → r < n → mate row n r ≡ row r .partner
-  unfolding mate
-  mate-inside r h = rw (not-outside n r h)
-
   -- the partner of a listed record of the pool
   pub partner-named : (l : List ℕ) (r : ℕ) → r < n → List·Memᴰ r l → List·Memᴰ (row r .partner) (named row n l)
-  partner-named l r h m = rw (mate-inside r h) at (mate-named l r m)
+  partner-named l r h m = rw (mate-inside row n r h) at (mate-named l r m)
 
   -- and nobody else
   pub named-all : (D : ℕ → Type 0) (l : List ℕ) → ((r : ℕ) → List·Memᴰ r l → (r < n) × (D r × D (row r .partner))) → (q : ℕ) → List·Memᴰ q (named row n l) → D q
@@ -39,7 +35,7 @@ module _ {P : Type 0} (row : ℕ → Event P) (n : ℕ) where
   named-all D (r ∷ l) h q m = own (List·Memᴰ·cases-cons m) (h r (List·Memᴰ·head refl)) (named-all D l (λ x k. h x (List·Memᴰ·tail k)) q)
     where
       other : (q ≡ mate row n r) ⊎ List·Memᴰ q (named row n l) → (r < n) × (D r × D (row r .partner)) → (List·Memᴰ q (named row n l) → D q) → D q
-      other (inl e) d rest = rw (e ∙ mate-inside r (d .0)) (d .1 .1)
+      other (inl e) d rest = rw (e ∙ mate-inside row n r (d .0)) (d .1 .1)
       other (inr k) d rest = rest k
 
       own : (q ≡ r) ⊎ List·Memᴰ q (mate row n r ∷ named row n l) → (r < n) × (D r × D (row r .partner)) → (List·Memᴰ q (named row n l) → D q) → D q
