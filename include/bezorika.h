@@ -112,8 +112,12 @@ uint64_t bezorika_subdivide(double (*points)[2], size_t points_length,
    counts: contours, corners, holes, and contours whose first and last corners
    differ.
 
-   Refuses by 1, 2, 4, 8 and 5 with all arrays and counts as lent; by 9 with the
-   contours finished before it, as counts tells. */
+   Of the marks only the contour's two change, and only where a number is
+   forgotten or given; every number found in the pool is forgotten first.
+
+   Refuses by 1, 2 (of the listed records and their partners), 4, 8 and 5 with
+   all arrays and counts as lent; by 9 with the contours finished before it, as
+   counts tells. */
 uint64_t bezorika_connect(const double (*points)[2], size_t points_length,
                           uint32_t (*marks)[12], size_t marks_length,
                           const uint32_t *list, size_t list_length,
