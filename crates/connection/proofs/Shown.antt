@@ -17,8 +17,8 @@ use Rattle.contours.specs.Walls.{toldOf}
 use Rattle.contours.proofs.AtBinary64.{enough}
 use Rattle.rows.specs.Rows.{pointCode}
 use Rattle.tracing.specs.Tracing.{cornersIn, holesIn, rowIn, rowsIn}
-use Rattle.view.specs.declared.Corner.the-variants.{At, Nothing}
-use Rattle.view.specs.View.{partOf, pointAt, cornerAt}
+use Rattle.view.specs.declared.Corner.the-variants.{At}
+use Rattle.view.specs.View.{partOf, pointAt}
 use Rattle.view.proofs.Parts.{laid-at, corner-within, corner-beyond}
 use Rattle.connection.specs.Connection.{Lent, roomOf, written, after, connectEdges}
 use Rattle.connection.specs.Shown.{shownIn, cornersOf, Shown}

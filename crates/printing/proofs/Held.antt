@@ -2,17 +2,17 @@
 use mathlib.Core.Path.{_≡_, refl, sym, ap, _∙_}
 use mathlib.Core.Option.{Option, none, some}
 use mathlib.Core.List.{List, [], _∷_, _++_, map, append-assoc}
-use Prim.Native.Nat.{ℕ, _+_, _≤_}
+use Prim.Native.Nat.{ℕ, _+_}
 use native.Mathlib.Omega.{arith}
 use borrow.Author.Tests.{le-ltb}
 use lib.Ieee.{Float}
-use lib.ListN.{length, take, drop, length-append, length-map}
+use lib.ListN.{length, take, length-append, length-map}
 use lib.Seq.{take-append-seam, drop-at}
 use Rattle.numbers.specs.declared.Coordinate.{Coordinate}
 use Rattle.contours.specs.Outline.{Outline}
 use Rattle.sheet.specs.declared.edges.Corner.{Corner}
 use Rattle.view.proofs.Parts.{laid-at}
-use Rattle.printing.specs.Printing.{Drawn, bitsOf, drawn, drawing, printed}
+use Rattle.printing.specs.Printing.{bitsOf, drawn, drawing, printed}
 use Rattle.printing.specs.Arrays.{partLength, part, cornerOf, parentOf, drawnRow, printedArrays, numberOf, rowsFrom, numbersOf, allCorners, allHoles}
 
 -- holes that stand after others are the part from there on

@@ -12,8 +12,8 @@ use crate::puts::line;
 use crate::puts::number;
 use crate::puts::text;
 use view::Corner;
-use view::corner_at;
-use view::count_of;
+use view::corner_shown;
+use view::count_shown;
 use view::part_of;
 
 // The parent's number, given as that number + 1, or `-` for 0.
@@ -65,7 +65,7 @@ fn corner_lines(out: &mut [u8], at: usize, corners: &[[f64; 2]]) -> usize
     let mut place = at;
     let mut i = 0;
     loop {
-        match corner_at(corners, i) {
+        match corner_shown(corners, i) {
             Corner::Nothing => return place,
             Corner::At(p) => {
                 place = corner_line(out, place, p.x, p.y);
@@ -99,6 +99,6 @@ pub fn contour_lines(
     let counted = head_line(out, at, row[2], row[3]);
     let listed = line(out, counted, b"holes ", n as u64);
     let points = hole_lines(out, listed, holes, row[4], n);
-    let first = line(out, points, b"points ", count_of(shown) as u64);
+    let first = line(out, points, b"points ", count_shown(shown) as u64);
     corner_lines(out, first, shown)
 }

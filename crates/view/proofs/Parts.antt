@@ -1,6 +1,6 @@
 -- Where points lie one after the other, each part is shown as it was laid; a part is only ever points that were lent; and its corners are read one by
 -- one until there is none.
-use mathlib.Core.Path.{_≡_, refl, sym, ap, _∙_}
+use mathlib.Core.Path.{_≡_, refl, ap, _∙_}
 use mathlib.Core.Bool.{Bool, true, false, cond}
 use mathlib.Core.List.{List, [], _++_}
 use Prim.Native.Nat.{ℕ, _+_, _-_, _<_, _≤_}
@@ -11,7 +11,6 @@ use lib.Ieee.{Float}
 use lib.ListN.{length, getD, take, drop, length-append}
 use lib.Seq.{take-append-seam, drop-append-seam, getD-take, getD-drop}
 use Rattle.numbers.specs.declared.Coordinate.{Coordinate}
-use Rattle.view.specs.declared.Corner.{Corner}
 use Rattle.view.specs.declared.Corner.the-variants.{At, Nothing}
 use Rattle.view.specs.View.{partOf, pointAt, cornerAt}
 

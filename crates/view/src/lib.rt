@@ -63,3 +63,16 @@ pub fn read_corner<'a>(v: ContourView<'a>, i: usize) -> Corner
 {
     corner_at(v.points, i)
 }
+
+// For a caller that holds the part: its view, asked once.
+pub fn count_shown(points: &[[f64; 2]]) -> usize
+    ensures { λ r. ⌜ r ≡ length (now (points .entry)) ⌝ }
+{
+    contour_len(contour_view(points))
+}
+
+pub fn corner_shown(points: &[[f64; 2]], i: usize) -> Corner
+    ensures { λ r. ⌜ r ≡ cornerAt (now (points .entry)) i ⌝ }
+{
+    read_corner(contour_view(points), i)
+}

@@ -19,7 +19,7 @@ returns c =
     let room : length (a .out .now) ≤ 18446744073709551615 = omega (arith, entry .good .0 .1) in
     let shown = c .before .before .before .before .before .before .before .before .before .before .before .before .before .before .before .before .before .before .before .before .before .before .before .part-of in
     contour-put (a .corners .now) (a .holes .now) (a .t5) room _ _ (shown .result .now)
-    (c .before .before .before .before .before .before .before .before .before .before .before .before .before .before .before .before .before .before .before .before .before .before .before .before .part-length .ensures) (shown .ensures) (c .before .before .before .before .before .before .before .count-of .ensures)
+    (c .before .before .before .before .before .before .before .before .before .before .before .before .before .before .before .before .before .before .before .before .before .before .before .before .part-length .ensures) (shown .ensures) (c .before .before .before .before .before .before .before .count-shown .ensures)
     (c .before .before .before .before .before .before .before .before .before .before .before .before .before .before .before .before .before .before .before .before .before .head-line .ensures) (c .before .before .before .before .before .before .before .before .before .before .before .before .before .before .before .before .line .ensures) (c .before .before .before .before .before .before .before .before .before .before .before .before .hole-lines .ensures)
     (c .before .before .before .before .before .before .line2 .ensures) (c .before .before .corner-lines .ensures)
 

@@ -3,7 +3,7 @@ use borrow.Author.Needs.{needs}
 use mathlib.Core.Path.{_≡_, refl, sym, _∙_}
 use mathlib.Core.List.{map}
 use native.Mathlib.Omega.{arith}
-use Prim.Native.Nat.{_+_, _-_, _≤_}
+use Prim.Native.Nat.{_-_, _≤_}
 use lib.ListN.{length, drop}
 use Rattle.view.proofs.Parts.{found-within}
 use Rattle.printing.specs.Printing.{bitsOf, cornerLines}
@@ -30,19 +30,19 @@ loop-holds c =
 returns : tie.Need-returns Inv-loop μ-loop
 returns c =
     let l = c .before .before .before .loop in
-    done (l .inv .0) (corner-end _ (l .i) (sym (c .before .before .corner-at .ensures) ∙ c .enum-told .given .1))
+    done (l .inv .0) (corner-end _ (l .i) (sym (c .before .before .corner-shown .ensures) ∙ c .enum-told .given .1))
 
 -- a corner that was found is within them
 add-i : tie.Need-add-i Inv-loop μ-loop
 add-i c =
     let p = c .before .before .before .before .before .p .given in
-    let within = found-within _ (c .before .before .before .before .before .before .before .before .loop .i) _ (sym (c .before .before .before .before .before .before .before .corner-at .ensures) ∙ p .1) in
+    let within = found-within _ (c .before .before .before .before .before .before .before .before .loop .i) _ (sym (c .before .before .before .before .before .before .before .corner-shown .ensures) ∙ p .1) in
     omega (arith, within .0)
 
 loop-less : tie.Need-loop-less Inv-loop μ-loop
 loop-less c =
     let p = c .before .before .before .before .before .p .given in
-    let within = found-within _ (c .before .before .before .before .before .before .before .before .loop .i) _ (sym (c .before .before .before .before .before .before .before .corner-at .ensures) ∙ p .1) in
+    let within = found-within _ (c .before .before .before .before .before .before .before .before .loop .i) _ (sym (c .before .before .before .before .before .before .before .corner-shown .ensures) ∙ p .1) in
     omega (arith, within .0)
 
 loop-again : tie.Need-loop-again Inv-loop μ-loop
@@ -50,7 +50,7 @@ unfolding bitsOf
 loop-again c =
     let p = c .before .before .before .before .before .p .given in
     let l = c .before .before .before .before .before .before .before .before .loop in
-    let found = sym (c .before .before .before .before .before .before .before .corner-at .ensures) ∙ p .1 in
+    let found = sym (c .before .before .before .before .before .before .before .corner-shown .ensures) ∙ p .1 in
     let within = found-within _ (l .i) _ found in
     (on (l .inv .0) _ _ (corner-on _ (l .i) _ found) (c .before .before .corner-line .ensures), c .before .before .corner-line .kept .0 ∙ l .inv .1, omega (arith, within .0))
 
