@@ -11,8 +11,9 @@ use lib.Seq.{take-append-seam, drop-at}
 use Rattle.numbers.specs.declared.Coordinate.{Coordinate}
 use Rattle.contours.specs.Outline.{Outline}
 use Rattle.sheet.specs.declared.edges.Corner.{Corner}
+use Rattle.view.specs.View.{partOf}
 use Rattle.view.proofs.Parts.{laid-at}
-use Rattle.printing.specs.Printing.{bitsOf, drawn, drawing, printed}
+use Rattle.printing.specs.Printing.{Drawn, bitsOf, drawn, drawing, printed}
 use Rattle.printing.specs.Arrays.{partLength, part, cornerOf, parentOf, drawnRow, printedArrays, numberOf, rowsFrom, numbersOf, allCorners, allHoles}
 
 -- holes that stand after others are the part from there on
@@ -32,10 +33,15 @@ unfolding cornerOf numbersOf bitsOf
 corners-held [] = refl
 corners-held (p ∷ l) = ap (λ (m : List Corner). bitsOf p ∷ m) (corners-held l)
 
+drawn-same : {p q : Option ℕ} (depth : ℕ) {h k : List ℕ} {c e : List Corner} → p ≡ q → h ≡ k → c ≡ e
+    → _≡_ {A = Drawn} (record { parent = p; depth = depth; holes = h; corners = c }) (record { parent = q; depth = depth; holes = k; corners = e })
+drawn-same depth a b c = rw (a, b, c)
+
 row-held : (o : Outline Coordinate) (a c : List (List Float)) (b d : List ℕ) (i j : ℕ) → length a ≡ i → length b ≡ j → drawnRow (a ++ (map numbersOf (o .corners) ++ c)) (b ++ (o .holes ++ d)) (i ∷ (i + length (o .corners)) ∷ numberOf (o .parent) ∷ o .depth ∷ j ∷ length (o .holes) ∷ []) ≡ drawn o
 unfolding drawnRow drawn
 row-held o a c b d i j h k =
-    rw (parent-held (o .parent), laid-at a (map numbersOf (o .corners)) c i (length (o .corners)) h (length-map (o .corners) numbersOf), part-held b (o .holes) d j k, corners-held (o .corners))
+    let shown : partOf (a ++ (map numbersOf (o .corners) ++ c)) i (i + length (o .corners)) ≡ map numbersOf (o .corners) = laid-at a (map numbersOf (o .corners)) c i (length (o .corners)) h (length-map (o .corners) numbersOf) in
+    drawn-same (o .depth) (parent-held (o .parent)) (part-held b (o .holes) d j k) (ap (map cornerOf) shown ∙ corners-held (o .corners))
 
 rows-held : (os : List (Outline Coordinate)) (a c : List (List Float)) (b d : List ℕ) (i j : ℕ) → length a ≡ i → length b ≡ j → map (drawnRow (a ++ (allCorners os ++ c)) (b ++ (allHoles os ++ d))) (rowsFrom i j os) ≡ map drawn os
 unfolding rowsFrom allCorners allHoles
