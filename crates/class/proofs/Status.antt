@@ -10,7 +10,7 @@ use Rattle.events.specs.Event.{Event}
 use Rattle.class.specs.declared.Operation.{Operation}
 use Rattle.class.specs.Class.{Neighbour, None, Edge, written, inOutAbove, otherInOutAbove, belowAbove, setFromLower, isInResult, inResult, fields}
 use Rattle.class.specs.Truth.{place, changes, own, other, Describes}
-use Rattle.class.specs.Status.{nextBelow, Computed, isCrossed, crossings, isOdd, nearest, Tells, beyond, sidesAbove}
+use Rattle.class.specs.Status.{nextBelow, Computed, isCrossed, crossings, NoneVertical, edgesOf, isOdd, nearest, Tells, beyond, sidesAbove}
 use Rattle.class.proofs.Truth.{normal-in-result}
 
 -- ---- one edge further: a its layer, b the neighbour's, and of the neighbour vertical, in-out and other-in-out
@@ -68,6 +68,11 @@ pub tells-all : {P : Type 0} (op : Operation) (n : Neighbour P) (below : List (N
 unfolding Computed nextBelow
 tells-all op n [] (h, rest) = rw h (tells-none op (n .event))
 tells-all op n (m ∷ below) (h, rest) = rw h (tells-above op (n .event) m below (tells-all op m below rest))
+
+pub each-crossed : {P : Type 0} (layer next : Bool) (below : List (Neighbour P)) → NoneVertical below → crossings layer next below ≡ edgesOf layer below
+unfolding crossings isCrossed edgesOf NoneVertical
+each-crossed layer next [] h = refl
+each-crossed layer next (n ∷ below) (sloping, h) = rw (sloping, each-crossed layer (n .event .subject) below h)
 
 -- ---- in the words of the truth table
 

@@ -33,6 +33,15 @@ crossings layer next (n ∷ rest) =
     let lower = crossings layer (n .event .subject) rest in
     cond (isCrossed next n && Bool·beq layer (n .event .subject)) (suc lower) lower
 
+-- where no edge is vertical, that is how many edges of the layer there are
+unfoldable pub NoneVertical : {P : Type 0} → List (Neighbour P) → Type 0
+NoneVertical [] = Unit {0}
+NoneVertical (n ∷ rest) = (n .vertical ≡ false) × NoneVertical rest
+
+unfoldable pub edgesOf : {P : Type 0} → (layer : Bool) → List (Neighbour P) → ℕ
+edgesOf layer [] = 0
+edgesOf layer (n ∷ rest) = let lower = edgesOf layer rest in cond (Bool·beq layer (n .event .subject)) (suc lower) lower
+
 unfoldable pub isOdd : ℕ → Bool
 isOdd zero = false
 isOdd (suc n) = not (isOdd n)
@@ -61,5 +70,6 @@ unfoldable pub beyond : Bool → Place → Place
 beyond true p = place (not (p .subject)) (p .clip)
 beyond false p = place (p .subject) (not (p .clip))
 
+-- the two sides of an edge of layer `next` above these
 abbrev pub sidesAbove : {P : Type 0} → Bool → List (Neighbour P) → Sides
 sidesAbove next below = record { below = placeBelow next below; above = beyond next (placeBelow next below) }
