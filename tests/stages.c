@@ -328,6 +328,31 @@ static void sweep_last_digit(void)
     }
 }
 
+/* A division gives the old right end its new partner, and the left end too; no other mark of theirs is written, in whatever numbers it says
+   what it says: a flag is false by any number but 1, and a link none; a type or transition beyond the last is the last. */
+static void sweep_keeps_marks(void)
+{
+    const uint32_t odd[2][12] = {{7, 1, 5, 0, 0, 77, 9, 9, 7, 0, 2, 3}, {2, 9, 6, 2, 8, 1, 4, 0, 1, 6, 0, 1}};
+    /* the first of the pair is divided first: new ends 4 and 5, then 6 and 7 */
+    const uint32_t kept[2][12] = {{7, 1, 5, 5, 0, 77, 9, 9, 7, 0, 2, 3}, {2, 9, 6, 7, 8, 1, 4, 0, 1, 6, 0, 1}};
+    no_edges();
+    edge(1, 5, 0, 0, 2, 2);
+    edge(0, 6, 0, 2, 2, 0);
+    fill();
+    EXPECT(load(16) == 0 && used == 4);
+    memcpy(pool.marks[1], odd[0], sizeof odd[0]);
+    memcpy(pool.marks[3], odd[1], sizeof odd[1]);
+    pool.marks[2][1] = 9; /* the clip, by another number */
+    pool.marks[2][10] = 8;
+    pool.marks[2][11] = 3;
+    keep();
+    EXPECT(sweep(BEZORIKA_UNION, 16) == 0 && counts[0] == 8 && counts[1] == 2 && counts[2] == 8);
+    EXPECT(memcmp(pool.marks[1], kept[0], sizeof kept[0]) == 0 && memcmp(pool.marks[3], kept[1], sizeof kept[1]) == 0);
+    EXPECT(pool.marks[2][0] == 1 && pool.marks[2][1] == 9 && pool.marks[2][2] == 6 && pool.marks[2][3] == 6);
+    EXPECT(pool.marks[2][6] == 0 && pool.marks[2][10] == 8 && pool.marks[2][11] == 3);
+    EXPECT(rest_as_lent(8) && memcmp(pool.points, lent.points, 4 * sizeof pool.points[0]) == 0);
+}
+
 /* ---- ties, and another order of the edges */
 
 static const double FLOOR[][4] = {{0, 0, 4, 3}, {5, 0, 4.5, 3.5}, {0, 4.25, 4.25, 3}, {5, 4.5, 4, 3}};
@@ -477,6 +502,46 @@ static void connect_squares(void)
         numbered += pool.marks[i][10] == 1 && pool.marks[i][11] == 0;
     /* 1s say that a place has a contour number, and such a number is forgotten */
     EXPECT(filler == 1 || (numbered == 8 && rest_as_lent(24)));
+}
+
+/* Contour numbers are all that connection writes in the pool: found ones are forgotten wherever they stand, and every other number stays as
+   lent, at places in use too. */
+static void connect_keeps_marks(void)
+{
+    const uint32_t found[12] = {7, 1, 9, 5, 0, 6, 9, 9, 5, 5, 1, 3}, forgotten[12] = {7, 1, 9, 5, 0, 6, 9, 9, 5, 5, 0, 0};
+    const uint32_t none[12] = {1, 1, 1, 1, 1, 1, 1, 1, 1, 1, 9, 4};
+    const double zone[5][2] = {{1, 1}, {2, 1}, {2, 2}, {1, 2}, {1, 1}};
+    squares();
+    uint32_t listed = swept(0);
+    /* all that is false, none or the last, in other numbers */
+    for (int i = 0; i < 24; i++) {
+        uint32_t *m = pool.marks[i];
+        static const int flags[4] = {0, 1, 8, 9};
+        for (int k = 0; k < 4; k++)
+            m[flags[k]] = m[flags[k]] == 1 ? 1 : 7;
+        if (m[4] != 1)
+            m[4] = 9, m[5] = 88;
+        m[7] = m[7] == 2 ? 9 : m[7];
+        m[10] = 6, m[11] = 1;
+    }
+    memcpy(pool.marks[40], found, sizeof found);
+    memcpy(pool.marks[255], found, sizeof found);
+    memcpy(pool.marks[41], none, sizeof none);
+    memcpy(pool.marks[256], found, sizeof found); /* beyond the pool that is lent */
+    keep();
+    EXPECT(connect(256, listed) == 0 && counts[0] == 1 && counts[3] == 0 && has_corners(0, zone, 5));
+    int numbered = 0, strange = 0;
+    for (int i = 0; i < 24; i++) {
+        int is = pool.marks[i][10] == 1;
+        numbered += is;
+        strange |= memcmp(pool.marks[i], lent.marks[i], 10 * sizeof found[0]) != 0;
+        strange |= is ? pool.marks[i][11] != 0 : pool.marks[i][10] != 6 || pool.marks[i][11] != 1;
+    }
+    EXPECT(numbered == 8 && !strange);
+    EXPECT(memcmp(pool.marks[40], forgotten, sizeof found) == 0 && memcmp(pool.marks[255], forgotten, sizeof found) == 0);
+    memcpy(pool.marks[40], found, sizeof found);
+    memcpy(pool.marks[255], found, sizeof found);
+    EXPECT(rest_as_lent(24));
 }
 
 static void connect_touching(void)
@@ -676,9 +741,11 @@ static void run(void)
         sweep_full();
         sweep_refused_cut();
         sweep_last_digit();
+        sweep_keeps_marks();
         another_order();
         tie_told();
         connect_squares();
+        connect_keeps_marks();
         connect_touching();
         connect_nested();
         connect_open();

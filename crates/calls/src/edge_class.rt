@@ -10,8 +10,8 @@ use events::EdgeType;
 use events::Event;
 use events::Link;
 use events::ResultTransition;
+use events::pool::enter_event;
 use events::pool::read_event;
-use events::pool::store_event;
 use numbers::Coordinate;
 use records::Computed;
 use records::compute_fields;
@@ -73,7 +73,7 @@ fn store_edge(
         false,
         Link::To(STALE),
     );
-    store_event(points, marks, EDGE, stale);
+    enter_event(points, marks, EDGE, stale);
 }
 
 // S V IO OIO TR LINK: the lower neighbour.
@@ -92,7 +92,7 @@ fn lower(line: &[u8], from: usize, points: &mut [[f64; 2]], marks: &mut [[u32; 1
     let transition = read.transition;
     store(points, marks, LOWER, 3, -1.0, x, flags[0]);
     let e = read_event(points, marks, LOWER);
-    store_event(
+    enter_event(
         points,
         marks,
         LOWER,

@@ -7,8 +7,8 @@ use crate::words;
 use events::EdgeType;
 use events::Link;
 use events::ResultTransition;
+use events::pool::enter_event;
 use events::pool::read_event;
-use events::pool::store_event;
 use neighbours::Met;
 use records::dividing::possible_intersection;
 
@@ -42,7 +42,7 @@ fn record(
         false,
         Link::None,
     );
-    store_event(points, marks, i, flagged);
+    enter_event(points, marks, i, flagged);
     after
 }
 

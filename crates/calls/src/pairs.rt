@@ -4,7 +4,7 @@ use events::Event;
 use events::Link;
 use events::ResultTransition;
 use events::fresh_event;
-use events::pool::store_event;
+use events::pool::enter_event;
 use numbers::Coordinate;
 
 // A left end with what an earlier computation left.
@@ -47,6 +47,6 @@ pub fn store(points: &mut [[f64; 2]], marks: &mut [[u32; 12]], i: u32, j: u32, e
     let to = e.to;
     let first = fresh_event(from, e.left, e.subject, e.ring, j);
     let second = fresh_event(to, !e.left, e.subject, e.ring, i);
-    store_event(points, marks, i, first);
-    store_event(points, marks, j, second);
+    enter_event(points, marks, i, first);
+    enter_event(points, marks, j, second);
 }

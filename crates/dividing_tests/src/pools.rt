@@ -23,13 +23,13 @@ pub fn points() -> [[f64; 2]; 4097]
 }
 
 // Left, subject, ring, partner, below, edge type, transition, in-out, other-in-out, contour: of the first two records some of everything, so that
-// what is lost shows.
+// what is lost shows; the second says it in other numbers than a new record would, and these stay.
 pub fn marks() -> [[u32; 12]; 4097]
     ensures { λ r. ⌜ 4097 ≡ length r ⌝ }
 {
     let mut marks = [[0; 12]; 4097];
     marks[0] = [1, 1, 5, 1, 1, 4, 0, 1, 1, 0, 1, 2];
-    marks[1] = [0, 1, 5, 0, 0, 0, 3, 2, 0, 1, 1, 3];
+    marks[1] = [7, 1, 5, 0, 0, 77, 9, 9, 7, 1, 1, 3];
     marks[2] = [1, 0, 9, 3, 1, 4, 0, 0, 1, 0, 0, 0];
     marks[3] = [0, 0, 9, 2, 0, 0, 0, 0, 0, 0, 0, 0];
     marks[4] = [1, 1, 0, 5, 0, 0, 0, 0, 0, 0, 0, 0];

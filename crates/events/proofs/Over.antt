@@ -2,7 +2,7 @@
 use mathlib.Core.Path.{_≡_, refl, sym, ap, _∙_}
 use mathlib.Core.Bool.{Bool, true, false, cond, false≢true}
 use Prim.Native.Nat.{ℕ}
-use borrow.Author.Tests.{eqb-true, eq-eqb, ne-eqb}
+use borrow.Author.Tests.{eqb-true, eq-eqb}
 use lib.Dec.{eqb}
 use Rattle.events.specs.declared.Link.{Link}
 use Rattle.events.specs.declared.Link.the-variants.{None, To}
@@ -20,19 +20,9 @@ module _ {A : Type 0} (says : ℕ → A) (number : A → ℕ) where
       go true e = sym (back (says m)) ∙ ap says (eqb-true (number (says m)) (number a) e) ∙ back a
       go false e = back a
 
-  module _ (m : ℕ) (a : A) where
-    pub over-lent : says m ≡ a → over says number m a ≡ m
-    unfolding over
-    over-lent h = rw (eq-eqb (number (says m)) (number a) (ap number h))
-
-    -- the test in numbers that are these
-    pub over-alike : {x n : ℕ} → x ≡ number (says m) → n ≡ number a → x ≡ n → m ≡ over says number m a
-    unfolding over
-    over-alike p q e = rw (eq-eqb (number (says m)) (number a) (sym p ∙ e ∙ q))
-
-    pub over-other : {x n : ℕ} → x ≡ number (says m) → n ≡ number a → (x ≡ n → ⊥) → n ≡ over says number m a
-    unfolding over
-    over-other p q d = rw (ne-eqb (number (says m)) (number a) (λ e. d (p ∙ e ∙ sym q))) q
+  pub over-lent : (m : ℕ) (a : A) → says m ≡ a → over says number m a ≡ m
+  unfolding over
+  over-lent m a h = rw (eq-eqb (number (says m)) (number a) (ap number h))
 
 -- ---- the two marks of a link
 

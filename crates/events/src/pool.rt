@@ -1,7 +1,9 @@
 // The pool: event records in two arrays that the caller lends, read and stored by number.
 // Outside the pool a read gives a blank record, its own partner, and nothing is written: every number has an answer.
 ghost use mathlib.Core.Path.{_≡_};
+ghost use mathlib.Core.Bool.{cond};
 ghost use mathlib.Core.List.{[]};
+ghost use lib.Dec.{eqb};
 ghost use lib.ListN.{getD, set};
 ghost use Rattle.events.specs.Event.{shown};
 ghost use Rattle.events.specs.Pool.{pool, rowAt, enter, store, eventOf, pointOf, marksOf, over, thereOver, linkOver, marksOver, flagOf, flagNumber, sameLink, linkOf, thereNumber, linkNumber, edgeTypeOf, edgeTypeNumber, transitionOf, transitionNumber, blank, stored};
@@ -181,34 +183,40 @@ pub fn marks_of(e: Event) -> [u32; 12]
 
 // ---- marks over lent ones: a mark that says what it should stays
 
-fn flag_over(m: u32, b: bool) -> u32
-    ensures { λ r. ⌜ r ≡ over flagOf flagNumber m b ⌝ }
+// The number n, unless the lent mark m says it.
+fn kept_or(m: u32, says: u32, n: u32) -> u32
+    ensures { λ r. ⌜ r ≡ cond (eqb says n) m n ⌝ }
 {
-    let n = number_of_flag(b);
-    if number_of_flag(m == 1) == n {
+    if says == n {
         return m;
     }
     n
+}
+
+fn flag_over(m: u32, b: bool) -> u32
+    ensures { λ r. ⌜ r ≡ over flagOf flagNumber m b ⌝ }
+{
+    kept_or(m, number_of_flag(m == 1), number_of_flag(b))
 }
 
 fn edge_type_over(m: u32, t: EdgeType) -> u32
     ensures { λ r. ⌜ r ≡ over edgeTypeOf edgeTypeNumber m t ⌝ }
 {
-    let n = number_of_edge_type(t);
-    if number_of_edge_type(edge_type_of(m)) == n {
-        return m;
-    }
-    n
+    kept_or(
+        m,
+        number_of_edge_type(edge_type_of(m)),
+        number_of_edge_type(t),
+    )
 }
 
 fn transition_over(m: u32, t: ResultTransition) -> u32
     ensures { λ r. ⌜ r ≡ over transitionOf transitionNumber m t ⌝ }
 {
-    let n = number_of_transition(t);
-    if number_of_transition(transition_of(m)) == n {
-        return m;
-    }
-    n
+    kept_or(
+        m,
+        number_of_transition(transition_of(m)),
+        number_of_transition(t),
+    )
 }
 
 // The two marks of a link stay or change together.

@@ -6,6 +6,7 @@ use mathlib.Core.List.{[], _∷_}
 use Prim.Native.Nat.{ℕ, _<_, _≤_}
 use native.Mathlib.Omega.{arith}
 use Rattle.events.specs.declared.EdgeType.{EdgeType}
+use Rattle.events.specs.declared.EdgeType.the-variants.{NonContributing}
 use Rattle.events.specs.Binary64.{binary64}
 use Rattle.events.specs.Event.{Event}
 use Rattle.events.specs.Store.{look}
@@ -21,22 +22,27 @@ unfolding typed
 type-alone e t = twelve (λ k. among k (6 ∷ []) ≡ false → Agree e (typed e t) k) (λ h. left refl) (λ h. subject refl) (λ h. ring refl) (λ h. partner refl) (λ h. there refl) (λ h. below refl) (λ h. absurd (true≢false h)) (λ h. transition refl) (λ h. inOut refl) (λ h. otherInOut refl) (λ h. numbered refl) (λ h. contour refl)
 
 module _ (s : Pool) (used a b : ℕ) (few : used ≤ stored .size s) (first-in-use : a < used) (second-in-use : b < used) (apart : a ≢ b) where
+  abbrev once : Pool
+  once = stored .store s b (typed (look stored s used b) NonContributing)
+
   abbrev after : Pool
   after = coincided binary64 stored s used a b
+
+  once-size : stored .size once ≡ stored .size s
+  once-size = pool-stored .size-store s b (typed (look stored s used b) NonContributing)
 
   pub first-lent : AsLentBut (6 ∷ []) s after a
   unfolding coincided typed
   first-lent =
-      let size = pool-stored .size-store s b _ in
-      lent-then (lent-away s b a _ apart)
-      (lent-here (stored .store s b _) a (6 ∷ []) (look stored s used a) _ (omega (arith, size)) (pool-stored .away s b a _ apart ∙ sym (look-in stored s used a first-in-use)) refl (type-alone (look stored s used a) _))
+      lent-then (lent-away s b a (typed (look stored s used b) NonContributing) apart)
+      (lent-here once a (6 ∷ []) (look stored s used a) _ (omega (arith, once-size)) (pool-stored .away s b a (typed (look stored s used b) NonContributing) apart ∙ sym (look-in stored s used a first-in-use)) refl (type-alone (look stored s used a) _))
 
   pub second-lent : AsLentBut (6 ∷ []) s after b
   unfolding coincided typed
   second-lent =
-      then-lent (lent-here s b (6 ∷ []) (look stored s used b) _ (omega arith) (sym (look-in stored s used b second-in-use)) refl (type-alone (look stored s used b) _))
-      (lent-away (stored .store s b _) a b _ (λ h. apart (sym h)))
+      then-lent (lent-here s b (6 ∷ []) (look stored s used b) (typed (look stored s used b) NonContributing) (omega arith) (sym (look-in stored s used b second-in-use)) refl (type-alone (look stored s used b) NonContributing))
+      (lent-away once a b _ (λ h. apart (sym h)))
 
   pub others-lent : (r : ℕ) → r ≢ a → r ≢ b → AsLentBut [] s after r
   unfolding coincided
-  others-lent r x y = lent-then (lent-away s b r _ y) (lent-away (stored .store s b _) a r _ x)
+  others-lent r x y = lent-then (lent-away s b r (typed (look stored s used b) NonContributing) y) (lent-away once a r _ x)

@@ -21,9 +21,11 @@ use Rattle.division.specs.declared.Division.{Division}
 use Rattle.division.specs.declared.Division.the-variants.{Done, Refused as NotDivided}
 use Rattle.division.specs.declared.Divided.{Divided}
 use Rattle.division.specs.Division.{moves, moved, After, divide}
+use Rattle.division.specs.Untouched.{Untouched}
 use Rattle.division.proofs.Outcomes.{as-lent, passed, used-after}
 use Rattle.division.proofs.Whole.{Segment, Whole}
 use Rattle.division.proofs.AtBinary64.{whole-pool}
+use Rattle.division.proofs.Untouched.{untouched}
 use Rattle.records.specs.InUse.{inUse, overused, checkedIn}
 use Rattle.records.specs.Dividing.{dividedBy, divideSegment}
 use Rattle.records.proofs.InUse.{within, size-in-use, seen}
@@ -74,6 +76,15 @@ module _ (p : Pool) (used i : ℕ) (cut : Coordinate) where
       by Passed e h =
           let w = segment row used i (passed binary64 stored p used i cut d h .left) (sound p used i e) in
           subst (λ (n : ℕ). Whole binary64 row (look stored (after .store) n) used i (moved binary64 (row i .point) cut) (moves binary64 (row i .point) cut) d) (used-after binary64 stored p used i cut d h) (whole-pool p used i cut d h w)
+
+  -- .. and in the lent numbers: of the two ends partner and flag alone, of all other records nothing
+  pub done-untouched : (d : Divided) → divideSegment p used i cut .answer ≡ Done d → Untouched p (divideSegment p used i cut .after) used i (row i .partner) (d .swapped)
+  unfolding divideSegment
+  done-untouched d = by (checkedIn p used (i ∷ [])) refl
+    where
+      by : (c : Check) → checkedIn p used (i ∷ []) ≡ c → dividedBy c p after .answer ≡ Done d → Untouched p (dividedBy c p after .after) used i (row i .partner) (d .swapped)
+      by (Refused x) e h = absurd (not-done _ d x h refl)
+      by Passed e h = untouched p used i cut d h (segment row used i (passed binary64 stored p used i cut d h .left) (sound p used i e))
 
   -- refused, by whatever number: all as lent
   pub refused-as-lent : (x : Refusal) → divideSegment p used i cut .answer ≡ NotDivided x → divideSegment p used i cut .after ≡ p
