@@ -1,12 +1,12 @@
 -- What each step hands on: its refusal, or what it left to the next.
 use mathlib.Core.Path.{_≡_, refl, sym, ap, _∙_}
-use mathlib.Core.Bool.{Bool, true, false, not, cond, _||_}
+use mathlib.Core.Bool.{Bool, cond}
 use mathlib.Core.List.{List}
 use Prim.Native.Nat.{ℕ, min, _≤_, _<_}
 use native.Mathlib.Nat.{zero-add}
 use native.Mathlib.Omega.{arith}
-use borrow.Author.Tests.{ltb-false, lt-ltb, le-ltb}
-use lib.Dec.{eqb, ltb}
+use borrow.Author.Tests.{lt-ltb, le-ltb}
+use lib.Dec.{ltb}
 use lib.Ieee.{Float}
 use lib.ListN.{length, take, length-take}
 use lib.Seq.{sets}
@@ -18,19 +18,17 @@ use Rattle.events.proofs.Stored.{pool-stored}
 use Rattle.class.specs.declared.Operation.{Operation}
 use Rattle.checks.specs.declared.Check.{Check}
 use Rattle.checks.specs.declared.Check.the-variants.{Passed, Refused as Struck}
-use Rattle.checks.specs.Checks.{missized, sizeRefusal}
-use Rattle.checks.proofs.Told.{both-passed}
 use Rattle.loading.specs.declared.Loaded.{Loaded}
 use Rattle.loading.specs.declared.Loaded.the-variants as Loading
 use Rattle.loading.specs.OnPool as Loads
 use Rattle.sweep.specs.declared.Swept.{Swept}
 use Rattle.sweep.specs.declared.Outcome as Sweep
 use Rattle.sweep.specs.declared.Outcome.the-variants as Sweeping
-use Rattle.sweep.specs.OnPool.{sizes, accept, answerOf, afterRun, asLent, afterChecks, subdividePool}
+use Rattle.sweep.specs.OnPool.{accept, answerOf, afterRun, asLent, afterChecks, subdividePool}
 use Rattle.sweep.specs.OnPool as Sweeps
 use Rattle.sweep.specs.Run.{subdivide}
 use Rattle.sweep.proofs.Ends.{used-within}
-use Rattle.sweep.proofs.Sweeps.{accepted, places-are}
+use Rattle.sweep.proofs.Sweeps.{loaded-within}
 use Rattle.sweep.proofs.Answers.{events-counted}
 use Rattle.sweep_room.specs.Room.{firstPlaces}
 use Rattle.connection.specs.declared.Connected.{Connected}
@@ -43,7 +41,7 @@ use Rattle.printing.specs.Arrays.{printedArrays}
 use Rattle.printing.specs.Put.{Put, mostPlaces}
 use Rattle.overlay_work.specs.declared.Overlaid.{Overlaid}
 use Rattle.overlay_work.specs.declared.Overlaid.the-variants.{Printed, Refused}
-use Rattle.overlay_work.specs.Overlay.{Work, Text, Stopped, After, left, put, wanted, noPoints, noMarks, noneTaken, noContours, noHoles, emptyPool, emptyOutlines, connectedTo, afterConnection, overlayTaken, sweptTo, afterSweep, loadedTo, afterLoading, overlayEdgesIn, overlay, answered, told, answer}
+use Rattle.overlay_work.specs.Overlay.{Text, After, left, put, wanted, noPoints, noMarks, noneTaken, noContours, noHoles, emptyPool, emptyOutlines, connectedTo, afterConnection, overlayTaken, sweptTo, afterSweep, loadedTo, afterLoading, overlayEdgesIn, overlay, answered, told, answer}
 
 -- ---- the text
 
@@ -123,22 +121,6 @@ module _ (op : Operation) (p : Pool) (n : ℕ) (lent : List ℕ) where
       omega (arith, a, b, counted-within (accept p n lent) refl)
 
   -- the places in use are within the pool, where the sweep was not refused
-  sizes-fit : (a b k : ℕ) → sizes a b k n ≡ Passed → n ≤ a
-  unfolding sizes
-  sizes-fit a b k h = by (missized a b) (not (eqb a k)) (ltb a n) refl h
-    where
-      by : (x y z : Bool) → ltb a n ≡ z → cond (x || (y || z)) (Struck sizeRefusal) Passed ≡ Passed → n ≤ a
-      by true y z l e = absurd (let z : _≡_ {A = ℕ} 0 1 = cc in omega arith)
-      by false true z l e = absurd (let z : _≡_ {A = ℕ} 0 1 = cc in omega arith)
-      by false false true l e = absurd (let z : _≡_ {A = ℕ} 0 1 = cc in omega arith)
-      by false false false l e = ltb-false a n l
-
-  loaded-fit : accept p n lent ≡ Passed → n ≤ stored .size p
-  unfolding accept
-  loaded-fit h =
-      let a = sizes-fit (length (p .points)) (length (p .marks)) (length lent) (both-passed (sizes (length (p .points)) (length (p .marks)) (length lent) n) _ h .0) in
-      omega (arith, a, places-are p (accepted p n lent h .0))
-
   used-is : accept p n lent ≡ Passed → swept .answer .used ≡ subdivide binary64 stored (inMode Modes.ordered) op p n .used
   unfolding subdividePool afterChecks afterRun answerOf
   used-is h = rw h
@@ -151,7 +133,7 @@ module _ (op : Operation) (p : Pool) (n : ℕ) (lent : List ℕ) where
   not-both o r d e = let z : _≡_ {A = ℕ} 0 1 = cc in omega arith
 
   used-fit : (x : Check) → accept p n lent ≡ x → swept .answer .outcome ≡ Sweeping.Done → swept .answer .used ≤ stored .size p
-  used-fit Passed h d = omega (arith, used-is h, used-within binary64 stored pool-stored (inMode Modes.ordered) op p n (loaded-fit h))
+  used-fit Passed h d = omega (arith, used-is h, used-within binary64 stored pool-stored (inMode Modes.ordered) op p n (loaded-within p n lent h))
   used-fit (Struck r) h d = absurd (not-both _ r d (refused-is r h))
 
   module _ (s : Swept) (q : Pool) (taken : List ℕ) (e : Sweeps.after s q taken ≡ swept) (d : s .outcome ≡ Sweeping.Done) where

@@ -1,8 +1,9 @@
 -- A printed map is the text of the contours in which every wall of the swept sheet is walked once: each step of the work handed on what the next one took.
 use mathlib.Core.Path.{_≡_, refl, sym, _∙_, subst}
 use mathlib.Core.Bool.{Bool, true, false, cond}
-use mathlib.Core.List.{List}
-use Prim.Native.Nat.{ℕ, min}
+use mathlib.Core.Option.{Option}
+use mathlib.Core.List.{List, List·Memᴰ}
+use Prim.Native.Nat.{ℕ, min, _<_}
 use native.Mathlib.Omega.{arith}
 use borrow.Author.Tests.{ltb-false}
 use lib.Dec.{ltb}
@@ -10,10 +11,17 @@ use lib.ListN.{length, take}
 use lib.Seq.{sets}
 use Rattle.lists.proofs.Fronts.{first-are}
 use Rattle.refusals.specs.declared.Refusal.{Refusal}
+use Rattle.numbers.specs.declared.Coordinate.{Coordinate}
+use Rattle.crossing.specs.Modes.{ordered}
+use Rattle.events.specs.Binary64.{binary64}
+use Rattle.class.specs.declared.Operation.{Operation}
+use Rattle.class.specs.declared.Operation.the-variants.{Intersection, Difference, Union, Xor}
 use Rattle.loading.specs.declared.Loaded.{Loaded}
 use Rattle.loading.specs.declared.Loaded.the-variants as Loading
 use Rattle.sweep.specs.declared.Outcome as Sweep
 use Rattle.sweep.specs.declared.Outcome.the-variants as Sweeping
+use Rattle.sweep.specs.Bounds.{isPast}
+use Rattle.sweep.proofs.Answers.{all-listed}
 use Rattle.connection.specs.declared.Outcome as Connection
 use Rattle.connection.specs.declared.Outcome.the-variants as Connecting
 use Rattle.connection.specs.Connection.{Lent, connectEdges}
@@ -27,12 +35,24 @@ use Rattle.printing.specs.Printing.{printed}
 use Rattle.printing.specs.Put.{mostPlaces}
 use Rattle.overlay_work.specs.declared.Overlaid.the-variants.{Printed, Refused}
 use Rattle.overlay_work.specs.Overlay.{Work, Text, Stopped, left, put, wanted, poolPlaces, contourPlaces, noneTaken, emptyOutlines, connectedTo, afterConnection, overlayTaken, sweptTo, afterSweep, loadedTo, afterLoading, overlayEdgesIn, overlayEdges, overlaySheet, afterReading, work, overlay}
-use Rattle.overlay_work.specs.Insured.{loadedSheet, sweptSheet, Run, sweptPool, eventsTaken, Insured}
+use Rattle.overlay_work.specs.Insured.{loadedSheet, sweptSheet, Run, swept, sweptPool, eventsTaken, NeverEarly, Insured}
 use Rattle.overlay_work.proofs.Texts.{text-is}
 use Rattle.overlay_work.proofs.Lengths.{text-short}
 
 no-text : (r : Refusal) (t : List ℕ) → Stopped r ≡ Text t → ⊥
 no-text r t e = let z : _≡_ {A = ℕ} 0 1 = cc in omega arith
+
+-- ---- the sweep
+
+never-past : (o : Operation) → NeverEarly o → (a b : Option Coordinate) (q : Coordinate) → isPast binary64 o a b q ≡ false
+unfolding isPast NeverEarly
+never-past Intersection h a b q = absurd h
+never-past Difference h a b q = absurd h
+never-past Union h a b q = refl
+never-past Xor h a b q = refl
+
+all-taken : {bytes : List ℕ} (r : Run bytes) → NeverEarly (r .sheet .operation) → (i : ℕ) → i < swept r .answer .used → List·Memᴰ i (eventsTaken r)
+all-taken r e = all-listed (r .sheet .operation) ordered _ (r .loaded) _ (never-past (r .sheet .operation) e) (r .sweeps)
 
 -- ---- connection
 
@@ -50,7 +70,7 @@ module _ {bytes : List ℕ} (r : Run bytes) (text : List ℕ) where
   of-outlined : Outlined (sweptPool r) (eventsTaken r) arrays connected → afterConnection connected ≡ Text text → Insured bytes text
   of-outlined o e =
       let z : Text text ≡ Text (printed (o .outlines)) = sym e ∙ shown o in
-      record { run = r; outlines = o .outlines; shows = cc; walls = o .walls; closing = λ even. o .closing even .0 }
+      record { run = r; outlines = o .outlines; shows = cc; walls = o .walls; closing = λ even. o .closing even .0; whole = all-taken r }
 
   of-taken : overlayTaken (sweptPool r) (eventsTaken r) ≡ Text text → Insured bytes text
   unfolding overlayTaken afterConnection connectedTo

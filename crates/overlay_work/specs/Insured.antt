@@ -1,13 +1,15 @@
 -- The insurer's first answer, of a sheet: is every wall in exactly one outline of the printed map? A wall is a result edge of the swept sheet: a left
 -- record among the events taken that is in the result; its two ends are its own point and its partner's.
 use mathlib.Core.Path.{_≡_}
-use mathlib.Core.List.{List}
-use Prim.Native.Nat.{ℕ}
+use mathlib.Core.List.{List, List·Memᴰ}
+use Prim.Native.Nat.{ℕ, _<_}
 use lib.ListN.{take}
 use Rattle.numbers.specs.declared.Coordinate.{Coordinate}
 use Rattle.crossing.specs.Modes.{ordered}
 use Rattle.events.specs.Binary64.{binary64}
 use Rattle.events.specs.Pool.{Pool, rowAt}
+use Rattle.class.specs.declared.Operation.{Operation}
+use Rattle.class.specs.declared.Operation.the-variants.{Intersection, Difference, Union, Xor}
 use Rattle.loading.specs.declared.Loaded.the-variants as Loading
 use Rattle.loading.specs.OnPool.{load}
 use Rattle.loading.specs.OnPool as Loads
@@ -53,6 +55,13 @@ module _ {bytes : List ℕ} (r : Run bytes) where
   abbrev pub eventsTaken : List ℕ
   eventsTaken = take (swept .answer .taken) (swept .taken)
 
+-- no event lies past all that matters
+unfoldable pub NeverEarly : Operation → Type 0
+NeverEarly Intersection = ⊥
+NeverEarly Difference = ⊥
+NeverEarly Union = Unit {0}
+NeverEarly Xor = Unit {0}
+
 -- ---- the printed text of a sheet
 
 pub record Insured (bytes text : List ℕ) : Type 0 where
@@ -64,3 +73,5 @@ pub record Insured (bytes text : List ℕ) : Type 0 where
   pub walls : OneToOne binary64 (rowAt (sweptPool run)) (eventsTaken run) (toldOf outlines .corners)
   -- if every point ends an even number of walls, every contour closes
   pub closing : EvenEnds binary64 (rowAt (sweptPool run)) (eventsTaken run) → AllClose outlines
+  -- unless the sweep may end early, every place in use was taken
+  pub whole : NeverEarly (run .sheet .operation) → (r : ℕ) → r < swept run .answer .used → List·Memᴰ r (eventsTaken run)

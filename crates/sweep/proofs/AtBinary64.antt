@@ -1,14 +1,12 @@
 -- The queue in the code's arrays, at binary64: what it tells of a state, and that it stays a queue.
-use mathlib.Core.Path.{_≡_, refl, sym, ap, _∙_, subst}
-use mathlib.Core.Bool.{Bool, true, false, not, cond}
+use mathlib.Core.Path.{_≡_, sym, ap, _∙_, subst}
+use mathlib.Core.Bool.{Bool, true}
 use mathlib.Core.List.{List, []}
 use Prim.Native.Nat.{ℕ, zero, suc, _-_, _<_, _≤_}
 use native.Mathlib.Nat.{zero-add}
 use native.Mathlib.Omega.{arith}
 use lib.ListN.{length, take, replicate}
 use lib.Seq.{length-take-le, take-take}
-use lib.Dec.{eqb}
-use borrow.Author.Tests.{ltb-false}
 use Rattle.numbers.specs.declared.Coordinate.{Coordinate}
 use Rattle.events.specs.declared.Link.the-variants.{To}
 use Rattle.events.specs.Binary64.{binary64}
@@ -18,12 +16,11 @@ use Rattle.events.specs.Store.{look}
 use Rattle.events.proofs.Stored.{pool-stored}
 use Rattle.events.proofs.Looks.{pool-blanks}
 use Rattle.class.specs.declared.Operation.{Operation}
-use Rattle.checks.specs.declared.Check.the-variants.{Passed, Refused}
-use Rattle.checks.specs.Checks.{maxEvents, missized, sizeRefusal}
+use Rattle.checks.specs.declared.Check.the-variants.{Passed}
+use Rattle.checks.specs.Checks.{maxEvents}
 use Rattle.checks.specs.Numbers.{numbersFrom}
 use Rattle.checks.specs.Sound as Checked
-use Rattle.checks.proofs.Told.{not-both, both-passed}
-use Rattle.checks.proofs.Unstruck.{neither}
+use Rattle.checks.proofs.Told.{both-passed}
 use Rattle.checks.proofs.Passed.{checked-passed}
 use Rattle.checks.proofs.Lowest.{length-numbers, number-at}
 use Rattle.division.proofs.AtBinary64.{move-laws}
@@ -39,30 +36,12 @@ use Rattle.sweep.specs.OnPool.{sizes, accept}
 use Rattle.sweep.specs.Turn.{state, startTurn, endedTurn, linedTurn, Queues}
 use Rattle.sweep.proofs.Growth.{turn-size}
 use Rattle.sweep.proofs.Good.{good-checked}
-use Rattle.sweep.proofs.Sweeps.{accepted, places-are}
+use Rattle.sweep.proofs.Sweeps.{loaded-within}
 use Rattle.sweep.proofs.Lines.{lined-next, lined-tie, lined-step, lined-start}
 
 -- ---- what the checks leave
 
-unstruck : (t : Bool) → cond t (Refused sizeRefusal) Passed ≡ Passed → t ≡ false
-unstruck true h = absurd (not-both _ _ h refl)
-unstruck false h = refl
-
-loaded-fit : (a b k n : ℕ) → sizes a b k n ≡ Passed → n ≤ a
-unfolding sizes
-loaded-fit a b k n h =
-    let any = neither (missized a b) _ (unstruck _ h) in
-    let last = neither (not (eqb a k)) _ (any .1) in
-    ltb-false a n (last .1)
-
 module _ (p : Pool) (n : ℕ) (taken : List ℕ) (h : accept p n taken ≡ Passed) where
-  loaded-within : n ≤ stored .size p
-  unfolding accept
-  loaded-within =
-      let fit = loaded-fit (length (p .points)) (length (p .marks)) (length taken) n (both-passed (sizes (length (p .points)) (length (p .marks)) (length taken) n) _ h .0) in
-      let is = places-are p (accepted p n taken h .0) in
-      omega arith
-
   each-sound : (r : ℕ) → r < n → Checked.Sound binary64 (rowAt p) n r
   unfolding accept
   each-sound r l =
@@ -72,7 +51,7 @@ module _ (p : Pool) (n : ℕ) (taken : List ℕ) (h : accept p n taken ≡ Passe
 
   pub good-accepted : Good binary64 stored p n
   unfolding stored
-  good-accepted = good-checked binary64 stored p n loaded-within each-sound
+  good-accepted = good-checked binary64 stored p n (loaded-within p n taken h) each-sound
 
 -- the queue after the records from `from` up to `used` came into use
 abbrev pub relined : (p : Pool) (w : List Bool) (from used room : ℕ) → List ℕ → List ℕ

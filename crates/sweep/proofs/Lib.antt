@@ -9,6 +9,7 @@ pub mod Walk
 pub mod Kept
 pub mod Growth
 pub mod Ends
+pub mod Whole
 pub mod Good
 pub mod Inherited
 pub mod OneEdge

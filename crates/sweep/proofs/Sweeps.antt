@@ -6,7 +6,7 @@ use mathlib.Core.Option.{Option}
 use Prim.Native.Nat.{ℕ, zero, suc, _+_, _-_, _/_, _≤_}
 use native.Mathlib.Numerals.{add-one}
 use native.Mathlib.Omega.{arith}
-use borrow.Author.Tests.{eqb-true, not-false}
+use borrow.Author.Tests.{eqb-true, ltb-false, not-false}
 use lib.Dec.{eqb, ltb}
 use lib.ListN.{length, take, drop, replicate, length-replicate, take-append-drop}
 use lib.Seq.{sets, length-take-le}
@@ -36,8 +36,8 @@ use Rattle.sweep.proofs.Ends.{counted}
 
 -- ---- the checks
 
--- the lent arrays of an accepted pool are of one size
-pub accepted : (p : Pool) (n : ℕ) (taken : List ℕ) → accept p n taken ≡ Passed → Sized (length (p .points)) (length (p .marks)) × (length (p .points) ≡ length taken)
+-- the lent arrays of an accepted pool are of one size, and hold all records loaded
+pub accepted : (p : Pool) (n : ℕ) (taken : List ℕ) → accept p n taken ≡ Passed → Sized (length (p .points)) (length (p .marks)) × (length (p .points) ≡ length taken) × (n ≤ length (p .points))
 unfolding accept sizes sized
 accepted p n taken h = by (missized a b) refl (not (eqb a k)) refl (ltb a n) refl (both-passed (sizes a b k n) _ h .0)
   where
@@ -50,17 +50,20 @@ accepted p n taken h = by (missized a b) refl (not (eqb a k)) refl (ltb a n) ref
     k : ℕ
     k = length taken
 
-    by : (x : Bool) → missized a b ≡ x → (y : Bool) → not (eqb a k) ≡ y → (z : Bool) → ltb a n ≡ z → cond (x || (y || z)) (Refused sizeRefusal) Passed ≡ Passed → Sized a b × (a ≡ k)
+    by : (x : Bool) → missized a b ≡ x → (y : Bool) → not (eqb a k) ≡ y → (z : Bool) → ltb a n ≡ z → cond (x || (y || z)) (Refused sizeRefusal) Passed ≡ Passed → Sized a b × (a ≡ k) × (n ≤ a)
     by true i y j z l e = absurd (not-both _ _ e refl)
     by false i true j z l e = absurd (not-both _ _ e refl)
     by false i false j true l e = absurd (not-both _ _ e refl)
-    by false i false j false l e = (sized-passed a b (rw i), eqb-true a k (not-false _ j))
+    by false i false j false l e = (sized-passed a b (rw i), eqb-true a k (not-false _ j), ltb-false a n l)
 
 -- ---- the start
 
 pub places-are : (p : Pool) → Sized (length (p .points)) (length (p .marks)) → length (p .points) ≡ stored .size p
 unfolding stored size
 places-are p s = omega (arith, s .equal)
+
+pub loaded-within : (p : Pool) (n : ℕ) (taken : List ℕ) → accept p n taken ≡ Passed → n ≤ stored .size p
+loaded-within p n taken h = let a = accepted p n taken h in omega (arith, a .2, places-are p (a .0))
 
 prefix : {A : Type 0} (n m : ℕ) (a : A) → n ≤ m → take n (replicate m a) ≡ replicate n a
 prefix zero m a h = refl
