@@ -8,7 +8,7 @@ use native.Mathlib.Nat.{suc-ne-zero}
 use borrow.Author.Tests.{ltb-true, ltb-false, lt-ltb, le-ltb, ne-eqb}
 use lib.Dec.{eqb, ltb}
 use lib.ListN.{length}
-use Rattle.events.specs.Binary64.{binary64}
+use Rattle.events.specs.Binary64.{atBinary64}
 use Rattle.events.specs.Pool.{Pool, size, rowAt}
 use Rattle.checks.specs.declared.Check.{Check}
 use Rattle.checks.specs.declared.Check.the-variants.{Passed, Refused}
@@ -23,11 +23,11 @@ use Rattle.acceptance.specs.OnPool.{acceptPool, toldUnfit, toldFlaw, tol
 use Rattle.acceptance.proofs.Tallying.{listed-seen, twice-seen, tallied-seen, unseen-beyond}
 use Rattle.acceptance.proofs.Chain.{where-passed}
 
-mistaken-inside : (p : Pool) (r : ℕ) → mistaken binary64 (rowAt p) (size p) r ≡ false → r < size p
+mistaken-inside : (p : Pool) (r : ℕ) → mistaken atBinary64 (rowAt p) (size p) r ≡ false → r < size p
 unfolding mistaken
 mistaken-inside p r e = inside (size p) r (neither _ _ e .0)
 
-outside-mistaken : (p : Pool) (r : ℕ) → size p ≤ r → mistaken binary64 (rowAt p) (size p) r ≡ true
+outside-mistaken : (p : Pool) (r : ℕ) → size p ≤ r → mistaken atBinary64 (rowAt p) (size p) r ≡ true
 unfolding mistaken outside
 outside-mistaken p r h = rw (le-ltb r (size p) h)
 
@@ -40,13 +40,13 @@ module _ (p : Pool) (list : List ℕ) (k : ℕ) (few : size p ≤ k) where
   abbrev tally : List ℕ
   tally = tallied (zeros k) list
 
-  misplaced-is : (r : ℕ) → misplacedSeen p tally r ≡ misplaced binary64 (rowAt p) (size p) list r
+  misplaced-is : (r : ℕ) → misplacedSeen p tally r ≡ misplaced atBinary64 (rowAt p) (size p) list r
   unfolding misplacedSeen misplaced
   misplaced-is r = by (ltb r k) refl
     where
       by : (t : Bool) → ltb r k ≡ t
-          → (mistaken binary64 (rowAt p) (size p) r || ltb 1 (seenAt tally r)) ≡ (twice list r || mistaken binary64 (rowAt p) (size p) r)
-      by true e = rw (tallied-seen k list r (ltb-true r k e), twice-seen) (or-comm (mistaken binary64 (rowAt p) (size p) r) (ltb 1 (seenIn list r)))
+          → (mistaken atBinary64 (rowAt p) (size p) r || ltb 1 (seenAt tally r)) ≡ (twice list r || mistaken atBinary64 (rowAt p) (size p) r)
+      by true e = rw (tallied-seen k list r (ltb-true r k e), twice-seen) (or-comm (mistaken atBinary64 (rowAt p) (size p) r) (ltb 1 (seenIn list r)))
       by false e = rw (outside-mistaken p r (omega (arith, ltb-false r k e))) (sym (or-true (twice list r)))
 
   -- where every listed record is of the pool
@@ -65,14 +65,14 @@ module _ (p : Pool) (list : List ℕ) (k : ℕ) (few : size p ≤ k) where
         by true e = rw (tallied-seen k list q (ltb-true q k e), listed-seen) (none-seen (seenIn list q))
         by false e = rw (unseen-beyond k list q (ltb-false q k e), unlisted-beyond q (ltb-false q k e))
 
-    half-is : (r : ℕ) → halfSeen p tally r ≡ halfListed binary64 (rowAt p) (size p) list r
+    half-is : (r : ℕ) → halfSeen p tally r ≡ halfListed atBinary64 (rowAt p) (size p) list r
     unfolding halfSeen halfListed
     half-is r = rw (unseen-is (rowAt p r .partner))
 
-  all-within : toldLowest 4 (misplaced binary64 (rowAt p) (size p) list) list ≡ Passed → (r : ℕ) → List·Memᴰ r list → r < k
+  all-within : toldLowest 4 (misplaced atBinary64 (rowAt p) (size p) list) list ≡ Passed → (r : ℕ) → List·Memᴰ r list → r < k
   unfolding misplaced
   all-within e r m =
-      let own = neither (twice list r) (mistaken binary64 (rowAt p) (size p) r) (told-none 4 _ list e r m) in
+      let own = neither (twice list r) (mistaken atBinary64 (rowAt p) (size p) r) (told-none 4 _ list e r m) in
       omega (arith, mistaken-inside p r (own .1))
 
   checks-are : (corners contours holes : ℕ) → acceptSeen p tally list corners contours holes ≡ acceptSized p list corners contours holes

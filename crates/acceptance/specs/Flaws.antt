@@ -3,7 +3,7 @@ use mathlib.Core.Bool.{Bool, _&&_, _||_}
 use mathlib.Core.List.{List}
 use Prim.Native.Nat.{ℕ}
 use lib.Dec.{eqb, ltb}
-use Rattle.events.specs.Binary64.{binary64}
+use Rattle.events.specs.Binary64.{atBinary64}
 use Rattle.events.specs.Pool.{Pool, rowAt}
 use Rattle.checks.specs.Checks.{mistaken}
 use Rattle.checks.specs.OnPool.{on}
@@ -18,7 +18,7 @@ numberOf Misplaced = 4
 numberOf HalfListed = 8
 
 unfoldable pub misplacedSeen : Pool → List ℕ → ℕ → Bool
-misplacedSeen p seen r = on p (mistaken binary64) r || ltb 1 (seenAt seen r)
+misplacedSeen p seen r = on p (mistaken atBinary64) r || ltb 1 (seenAt seen r)
 
 unfoldable pub halfSeen : Pool → List ℕ → ℕ → Bool
 halfSeen p seen r = inResult (rowAt p) r && eqb (seenAt seen (rowAt p r .partner)) 0

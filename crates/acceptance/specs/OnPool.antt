@@ -3,7 +3,7 @@ use mathlib.Core.Bool.{Bool, true, false}
 use mathlib.Core.List.{List}
 use Prim.Native.Nat.{ℕ}
 use lib.ListN.{length}
-use Rattle.events.specs.Binary64.{binary64}
+use Rattle.events.specs.Binary64.{atBinary64}
 use Rattle.events.specs.Pool.{Pool, size, rowAt}
 use Rattle.checks.specs.declared.Check.{Check}
 use Rattle.checks.specs.declared.Check.the-variants.{Passed, Refused}
@@ -20,7 +20,7 @@ room corners contours holes = record { points = corners; contours = contours; ho
 
 unfoldable pub acceptPool : Pool → List ℕ → (corners contours holes : ℕ) → Check
 acceptPool p list corners contours holes =
-    accept binary64 (rowAt p) (size p) (length (p .points)) (length (p .marks)) list (room corners contours holes)
+    accept atBinary64 (rowAt p) (size p) (length (p .points)) (length (p .marks)) list (room corners contours holes)
 
 -- ---- as the code runs them
 
@@ -32,7 +32,7 @@ isRefused Passed = false
 isRefused (Refused r) = true
 
 unfoldable pub toldUnfit : Pool → List ℕ → Check
-toldUnfit p list = toldLowest 2 (on p (unfitAt binary64)) (on p named list)
+toldUnfit p list = toldLowest 2 (on p (unfitAt atBinary64)) (on p named list)
 
 unfoldable pub toldFlaw : Pool → List ℕ → List ℕ → Flaw → Check
 toldFlaw p seen list flaw = toldLowest (numberOf flaw) (flawed p seen flaw) list
@@ -53,6 +53,6 @@ acceptSeen p seen list corners contours holes =
 unfoldable pub acceptSized : Pool → List ℕ → (corners contours holes : ℕ) → Check
 acceptSized p list corners contours holes =
     andThen (toldUnfit p list)
-    (andThen (toldLowest 4 (misplaced binary64 (rowAt p) (size p) list) list)
-    (andThen (toldLowest 8 (halfListed binary64 (rowAt p) (size p) list) list)
+    (andThen (toldLowest 4 (misplaced atBinary64 (rowAt p) (size p) list) list)
+    (andThen (toldLowest 8 (halfListed atBinary64 (rowAt p) (size p) list) list)
     (toldRoom p list corners contours holes)))

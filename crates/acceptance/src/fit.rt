@@ -1,6 +1,6 @@
 // Refusal 2: of the listed records and their partners, the lowest whose point is not fit.
 ghost use mathlib.Core.Path.{_≡_};
-ghost use Rattle.events.specs.Binary64.{binary64};
+ghost use Rattle.events.specs.Binary64.{atBinary64};
 ghost use Rattle.events.specs.Pool.{pool, rowAt};
 ghost use Rattle.checks.specs.Checks.{unfitAt};
 ghost use Rattle.acceptance.specs.OnPool.{toldUnfit};
@@ -13,7 +13,7 @@ use checks::sizes::places;
 
 // The same check with one more record looked at.
 fn unfit_also(points: &[[f64; 2]], marks: &[[u32; 12]], n: usize, told: Check, r: u32) -> Check
-    ensures { λ x. ⌜ x ≡ toldAlso told 2 r (unfitAt binary64 (rowAt (pool (now (points .entry)) (now (marks .entry)))) n r) ⌝ }
+    ensures { λ x. ⌜ x ≡ toldAlso told 2 r (unfitAt atBinary64 (rowAt (pool (now (points .entry)) (now (marks .entry)))) n r) ⌝ }
 {
     told_also(
         told,

@@ -5,7 +5,7 @@ use Prim.Native.Nat.{ℕ}
 use lib.ListN.{length}
 use Rattle.numbers.specs.declared.Coordinate.{Coordinate}
 use Rattle.events.specs.Event.{Event}
-use Rattle.events.specs.Binary64.{binary64}
+use Rattle.events.specs.Binary64.{atBinary64}
 use Rattle.events.specs.Pool.{Pool, size, rowAt}
 use Rattle.checks.specs.declared.Check.{Check}
 use Rattle.checks.specs.declared.Fault.{Fault}
@@ -24,9 +24,9 @@ numberOf (MistakenOrRight a b) = 4
 
 -- the test for it, where the records are those below n
 unfoldable pub strikes : Pool → ℕ → Fault → ℕ → Bool
-strikes p n Unfit = unfitAt binary64 (rowAt p) n
-strikes p n Mistaken = mistaken binary64 (rowAt p) n
-strikes p n (MistakenOrRight a b) = mistakenOrRight binary64 (rowAt p) n (a ∷ b ∷ [])
+strikes p n Unfit = unfitAt atBinary64 (rowAt p) n
+strikes p n Mistaken = mistaken atBinary64 (rowAt p) n
+strikes p n (MistakenOrRight a b) = mistakenOrRight atBinary64 (rowAt p) n (a ∷ b ∷ [])
 
 -- 1 for the pool, then 2 and this fault over a list of records
 unfoldable pub checkedFor : Pool → Fault → List ℕ → Check
@@ -36,7 +36,7 @@ checkedFor p fault rs =
 
 -- 1 for the pool, then 2 and 4 over a list of records
 unfoldable pub checkedAt : Pool → List ℕ → Check
-checkedAt p rs = andThen (sized (length (p .points)) (length (p .marks))) (on p (checked binary64) rs)
+checkedAt p rs = andThen (sized (length (p .points)) (length (p .marks))) (on p (checked atBinary64) rs)
 
 -- what an entry checks for the single records that it names
 abbrev pub checkedNamed : Pool → List ℕ → Check
@@ -44,4 +44,4 @@ checkedNamed p rs = checkedAt p (on p named rs)
 
 -- the same where it wants each of them left
 unfoldable pub checkedLeftNamed : Pool → List ℕ → Check
-checkedLeftNamed p rs = andThen (sized (length (p .points)) (length (p .marks))) (on p (checkedLeft binary64) rs)
+checkedLeftNamed p rs = andThen (sized (length (p .points)) (length (p .marks))) (on p (checkedLeft atBinary64) rs)

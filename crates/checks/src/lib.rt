@@ -1,7 +1,7 @@
 // 01's refusals 1, 2 and 4 for the records of a pool, run once at each public entry.
 ghost use mathlib.Core.Path.{_≡_};
 ghost use mathlib.Core.List.{[], _∷_};
-ghost use Rattle.events.specs.Binary64.{binary64};
+ghost use Rattle.events.specs.Binary64.{atBinary64};
 ghost use Rattle.events.specs.Pool.{pool, rowAt};
 ghost use Rattle.checks.specs.Checks.{checked};
 ghost use Rattle.checks.specs.Numbers.{numbersFrom};
@@ -75,7 +75,7 @@ pub fn check_left_two(points: &[[f64; 2]], marks: &[[u32; 12]], a: u32, b: u32) 
 
 // For the sweep: refusals 2 and 4 for the first n records. A link to a number not below n leads outside.
 pub fn check_loaded(points: &[[f64; 2]], marks: &[[u32; 12]], n: u32) -> Check
-    ensures { λ r. ⌜ r ≡ checked binary64 (rowAt (pool (now (points .entry)) (now (marks .entry)))) n (numbersFrom 0 n) ⌝ }
+    ensures { λ r. ⌜ r ≡ checked atBinary64 (rowAt (pool (now (points .entry)) (now (marks .entry)))) n (numbersFrom 0 n) ⌝ }
 {
     match loaded::check_lowest(points, marks, n, Fault::Unfit) {
         Check::Refused(refusal) => Check::Refused(refusal),

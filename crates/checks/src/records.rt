@@ -1,7 +1,7 @@
 // The tests of one record, where a pool's records are those below n: refusal 2, and the five mistakes of refusal 4 in 01's order.
 ghost use mathlib.Core.Path.{_≡_};
 ghost use mathlib.Core.List.{[], _∷_};
-ghost use Rattle.events.specs.Binary64.{binary64};
+ghost use Rattle.events.specs.Binary64.{atBinary64};
 ghost use Rattle.events.specs.Coordinates.{ahead};
 ghost use Rattle.events.specs.Pool.{pool, rowAt};
 ghost use Rattle.checks.specs.Checks as Checks;
@@ -17,7 +17,7 @@ use numbers::points;
 
 // Refusal 2: a record of the pool whose point is not fit.
 pub fn is_unfit_at(points: &[[f64; 2]], marks: &[[u32; 12]], n: usize, r: u32) -> bool
-    ensures { λ x. ⌜ x ≡ unfitAt binary64 (rowAt (pool (now (points .entry)) (now (marks .entry)))) n r ⌝ }
+    ensures { λ x. ⌜ x ≡ unfitAt atBinary64 (rowAt (pool (now (points .entry)) (now (marks .entry)))) n r ⌝ }
 {
     if is_outside(n, r) {
         return false;
@@ -49,14 +49,14 @@ pub fn is_alike(points: &[[f64; 2]], marks: &[[u32; 12]], r: u32) -> bool
 
 // Earlier by x, then y.
 pub fn is_ahead(p: Coordinate, q: Coordinate) -> bool
-    ensures { λ r. ⌜ r ≡ ahead binary64 p q ⌝ }
+    ensures { λ r. ⌜ r ≡ ahead atBinary64 p q ⌝ }
 {
     points::is_ahead(p, q)
 }
 
 // Left end not before its partner.
 pub fn is_misordered(points: &[[f64; 2]], marks: &[[u32; 12]], r: u32) -> bool
-    ensures { λ x. ⌜ x ≡ misordered binary64 (rowAt (pool (now (points .entry)) (now (marks .entry)))) r ⌝ }
+    ensures { λ x. ⌜ x ≡ misordered atBinary64 (rowAt (pool (now (points .entry)) (now (marks .entry)))) r ⌝ }
 {
     let e = read_event(points, marks, r);
     let other = read_event(points, marks, e.partner);
@@ -91,7 +91,7 @@ pub fn is_misled(points: &[[f64; 2]], marks: &[[u32; 12]], n: usize, r: u32) -> 
 
 // Refusal 4: one of the five.
 pub fn is_mistaken(points: &[[f64; 2]], marks: &[[u32; 12]], n: usize, r: u32) -> bool
-    ensures { λ x. ⌜ x ≡ mistaken binary64 (rowAt (pool (now (points .entry)) (now (marks .entry)))) n r ⌝ }
+    ensures { λ x. ⌜ x ≡ mistaken atBinary64 (rowAt (pool (now (points .entry)) (now (marks .entry)))) n r ⌝ }
 {
     if is_outside(n, r) {
         return true;
@@ -125,7 +125,7 @@ pub fn is_mistaken_or_right(
     b: u32,
     r: u32,
 ) -> bool
-    ensures { λ x. ⌜ x ≡ mistakenOrRight binary64 (rowAt (pool (now (points .entry)) (now (marks .entry)))) n (a ∷ b ∷ []) r ⌝ }
+    ensures { λ x. ⌜ x ≡ mistakenOrRight atBinary64 (rowAt (pool (now (points .entry)) (now (marks .entry)))) n (a ∷ b ∷ []) r ⌝ }
 {
     if is_mistaken(points, marks, n, r) {
         return true;

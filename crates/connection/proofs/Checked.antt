@@ -6,7 +6,7 @@ use lib.Ieee.{Float}
 use lib.ListN.{length}
 use Rattle.refusals.specs.declared.Refusal.{Refusal}
 use Rattle.numbers.specs.declared.Coordinate.{Coordinate}
-use Rattle.events.specs.Binary64.{binary64}
+use Rattle.events.specs.Binary64.{atBinary64}
 use Rattle.events.specs.Pool.{Pool, size, rowAt, stored}
 use Rattle.checks.specs.declared.Check.{Check}
 use Rattle.checks.specs.declared.Check.the-variants.{Passed, Refused}
@@ -24,7 +24,7 @@ use Rattle.connection.specs.Steps.{Small, connectAccepted}
 pub passed-small : (p : Pool) (list : List ℕ) (corners contours holes : ℕ) (k : Check) → k ≡ acceptPool p list corners contours holes → k ≡ Passed → Small p list
 unfolding acceptPool
 passed-small p list corners contours holes k e f =
-    let fits = accepted binary64 (rowAt p) (size p) list (length (p .points)) (length (p .marks)) (room corners contours holes) (sym e ∙ f) .1 in
+    let fits = accepted atBinary64 (rowAt p) (size p) list (length (p .points)) (length (p .marks)) (room corners contours holes) (sym e ∙ f) .1 in
     record { list-is = fits .short; pool-is = fits .sizes .few }
 
 module _ (p : Pool) (list : List ℕ) (cs : List (List Float)) (ks : List (List ℕ)) (hs : List ℕ) where
@@ -35,7 +35,7 @@ module _ (p : Pool) (list : List ℕ) (cs : List (List Float)) (ks : List (List 
   checks = acceptPool p list (length cs) (length ks) (length hs)
 
   abbrev decided : Check → After
-  decided k = after (afterChecks binary64 stored p list k) p l
+  decided k = after (afterChecks atBinary64 stored p list k) p l
 
   checks-decide : decided checks ≡ connectEdges p list l
   unfolding connectEdges room

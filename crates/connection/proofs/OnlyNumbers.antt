@@ -10,7 +10,7 @@ use lib.Dec.{ltb}
 use lib.ListN.{length}
 use Rattle.numbers.specs.declared.Coordinate.{Coordinate}
 use Rattle.events.specs.declared.Link.{Link}
-use Rattle.events.specs.Binary64.{binary64}
+use Rattle.events.specs.Binary64.{atBinary64}
 use Rattle.events.specs.Event.{Event}
 use Rattle.events.specs.Pool.{Pool, rowAt, stored}
 use Rattle.events.specs.Lent.{among, AsLentBut}
@@ -99,12 +99,12 @@ same-pool p = record { rest = λ r. lent-same (10 ∷ 11 ∷ []) p r; same = λ 
 
 pub only-numbers : (p : Pool) (list : List ℕ) (l : Lent) → OnlyNumbers p (connectEdges p list l .pool)
 unfolding connectEdges connectPool connect afterChecks outcomeOf after finished
-only-numbers p list l = go (accept binary64 (stored .rowAt p) (stored .size p) (length (p .points)) (length (p .marks)) list (roomOf l))
+only-numbers p list l = go (accept atBinary64 (stored .rowAt p) (stored .size p) (length (p .points)) (length (p .marks)) list (roomOf l))
   where
-    by : (a : Answer) → OnlyNumbers p (after (outcomeOf binary64 stored p list a) p l .pool)
-    by (done ms cs) = settled-only (numberIn (ordered (stored .rowAt p) binary64 list) ms) p
-    by (halted number i ms cs) = settled-only (numberIn (ordered (stored .rowAt p) binary64 list) ms) p
+    by : (a : Answer) → OnlyNumbers p (after (outcomeOf atBinary64 stored p list a) p l .pool)
+    by (done ms cs) = settled-only (numberIn (ordered (stored .rowAt p) atBinary64 list) ms) p
+    by (halted number i ms cs) = settled-only (numberIn (ordered (stored .rowAt p) atBinary64 list) ms) p
 
-    go : (x : Check) → OnlyNumbers p (after (afterChecks binary64 stored p list x) p l .pool)
-    go Passed = by (traced binary64 stored p list)
+    go : (x : Check) → OnlyNumbers p (after (afterChecks atBinary64 stored p list x) p l .pool)
+    go Passed = by (traced atBinary64 stored p list)
     go (Refused r) = same-pool p

@@ -7,7 +7,7 @@ use native.Mathlib.Omega.{arith}
 use borrow.Author.Tests.{le-ltb, le-leb, lt-ltb}
 use lib.ListN.{length, getD, take, length-take}
 use lib.Seq.{length-take-le}
-use Rattle.events.specs.Binary64.{binary64}
+use Rattle.events.specs.Binary64.{atBinary64}
 use Rattle.events.specs.Pool.{Pool, size, rowAt}
 use Rattle.checks.specs.Checks.{maxEvents}
 use Rattle.contours.specs.Result.{ordered}
@@ -61,7 +61,7 @@ module _ (p : Pool) (list o q o′ q′ ms : List ℕ) (t t′ : Rows) (n : ℕ)
   in-walked = omega (arith, few, st .size, w .walked)
 
   module _ (k : length q′ ≡ length q) where
-    in-places : (r : ℕ) → r < size p → getD q′ r 0 ≡ place (ordered (rowAt p) binary64 list) r
+    in-places : (r : ℕ) → r < size p → getD q′ r 0 ≡ place (ordered (rowAt p) atBinary64 list) r
     unfolding placeIn orderedIn
     in-places r h =
         let l : r < length q′ = omega (arith, size-most p, w .places) in

@@ -8,7 +8,7 @@ use lib.ListN.{length, getD, List·getD-eq-default}
 use lib.Ieee.{Float}
 use Rattle.numbers.specs.declared.Coordinate.{Coordinate}
 use Rattle.events.specs.Coordinates.{same}
-use Rattle.events.specs.Binary64.{binary64}
+use Rattle.events.specs.Binary64.{atBinary64}
 use Rattle.events.specs.Pool.{Pool, size, rowAt, stored}
 use Rattle.contours.specs.Result.{ordered}
 use Rattle.contours.specs.Table.{place}
@@ -54,17 +54,17 @@ unfolding outcomeIn
 stop-is o number i b = rw (ne-eqb number 0 (λ z. omega arith))
 
 -- q tells the position of every record among the ordered ones
-module _ (p : Pool) (list q : List ℕ) (l : Lent) (h : size p ≤ length q) (e : (r : ℕ) → r < size p → getD q r 0 ≡ place (ordered (rowAt p) binary64 list) r) where
+module _ (p : Pool) (list q : List ℕ) (l : Lent) (h : size p ≤ length q) (e : (r : ℕ) → r < size p → getD q r 0 ≡ place (ordered (rowAt p) atBinary64 list) r) where
   abbrev sheetOf : Answer → Tr.Sheet
   sheetOf a = answered (length (tableIn p list)) (T.rowAt void (tableIn p list)) (l .corners) (l .contours) (l .holes) a
 
   abbrev given : List ℕ → List Contour → Finished Coordinate Pool
-  given ms cs = finished binary64 stored p list ms cs
+  given ms cs = finished atBinary64 stored p list ms cs
 
-  pool-is : (ms : List ℕ) (cs : List Contour) → settledBy q ms p ≡ finished binary64 stored p list ms cs .pool
+  pool-is : (ms : List ℕ) (cs : List Contour) → settledBy q ms p ≡ finished atBinary64 stored p list ms cs .pool
   pool-is ms cs = sym (finished-pool p list q ms cs h e)
 
-  answer-is : (a : Answer) → Ends (length (tableIn p list)) (λ i ms cs. Unit {0}) a → laidDown (orderedIn p list) q p (sheetOf a) ≡ after (outcomeOf binary64 stored p list a) p l
+  answer-is : (a : Answer) → Ends (length (tableIn p list)) (λ i ms cs. Unit {0}) a → laidDown (orderedIn p list) q p (sheetOf a) ≡ after (outcomeOf atBinary64 stored p list a) p l
   unfolding answered Tr.written laidDown answerIn outcomeIn recordAt orderedIn tableIn after outcomeOf told written finished stored void
   answer-is (done ms cs) b = ap (λ (x : Pool). left (told (given ms cs .outlines) Done) x (written (given ms cs .outlines) l)) (pool-is ms cs)
   answer-is (halted number i ms cs) b =
@@ -73,4 +73,4 @@ module _ (p : Pool) (list q : List ℕ) (l : Lent) (h : size p ≤ length q) (e 
 
   pub traced-is : laidDown (orderedIn p list) q p (tracedAll (length (tableIn p list)) (T.rowAt void (tableIn p list)) (l .corners) (l .contours) (l .holes)) ≡ connectAccepted p list l
   unfolding tracedAll connectAccepted traced tableIn stored void
-  traced-is = answer-is (traced binary64 stored p list) (by-nine (same binary64) (length (tableIn p list)) (T.rowAt void (tableIn p list)))
+  traced-is = answer-is (traced atBinary64 stored p list) (by-nine (same atBinary64) (length (tableIn p list)) (T.rowAt void (tableIn p list)))

@@ -10,7 +10,7 @@ use lib.ListN.{length}
 use Rattle.refusals.specs.declared.Refusal.{Refusal}
 use Rattle.numbers.specs.declared.Coordinate.{Coordinate}
 use Rattle.events.specs.Coordinates.{same}
-use Rattle.events.specs.Binary64.{binary64}
+use Rattle.events.specs.Binary64.{atBinary64}
 use Rattle.events.specs.Renaming.{rename}
 use Rattle.events.specs.Pool.{Pool, size, rowAt}
 use Rattle.contours.specs.Outline.{Outline, closes, cornerCount, holeCount}
@@ -31,7 +31,7 @@ pub record Holds (os : List (Outline Coordinate)) (l : Lent) : Type 0 where
 
 -- the first and the last corner of each are one point, by value
 abbrev pub AllClose : List (Outline Coordinate) → Type 0
-AllClose os = (o : Outline Coordinate) → List·Memᴰ o os → closes (same binary64) (o .corners) ≡ true
+AllClose os = (o : Outline Coordinate) → List·Memᴰ o os → closes (same atBinary64) (o .corners) ≡ true
 
 pub record Outlined (p : Pool) (list : List ℕ) (l : Lent) (x : After) : Type 0 where
   pub outlines : List (Outline Coordinate)
@@ -41,11 +41,11 @@ pub record Outlined (p : Pool) (list : List ℕ) (l : Lent) (x : After) : Type 0
   pub arrays : x .outlines ≡ written outlines l
   pub room : Holds outlines l
   -- each two neighbouring corners are the two ends of a result edge, and each result edge is at one place of one contour
-  pub walls : OneToOne binary64 (rowAt p) list (toldOf outlines .corners)
+  pub walls : OneToOne atBinary64 (rowAt p) list (toldOf outlines .corners)
   -- counted open are those whose first and last corners differ
-  pub unclosed : x .answer .«open» ≡ unclosedAmong (same binary64) (toldOf outlines .corners)
+  pub unclosed : x .answer .«open» ≡ unclosedAmong (same atBinary64) (toldOf outlines .corners)
   -- none, if every point ends an even number of result edges
-  pub closing : EvenEnds binary64 (rowAt p) list → AllClose outlines × (x .answer .«open» ≡ 0)
+  pub closing : EvenEnds atBinary64 (rowAt p) list → AllClose outlines × (x .answer .«open» ≡ 0)
 
 -- ---- another numbering and another listing; x is left of the one call and y of the other, with the same arrays lent
 
@@ -72,8 +72,8 @@ pub record SameRefusal (p p′ : Pool) (l : Lent) (r : Refusal) (x y : After) : 
 
 pub record AnyOrder (ρ : ℕ → ℕ) (p p′ : Pool) (list : List ℕ) (l : Lent) (x y : After) : Type 0 where
   -- no two result edges from a shared end in one direction: done, or refused by 9, as it is
-  pub done : NoneOneWay binary64 (rowAt p) list → x .answer .outcome ≡ Done → SameCall ρ (size p) x y
-  pub by-9 : NoneOneWay binary64 (rowAt p) list → (r : Refusal) → x .answer .outcome ≡ Refused r → r .number ≡ 9 → SameCall ρ (size p) x y
+  pub done : NoneOneWay atBinary64 (rowAt p) list → x .answer .outcome ≡ Done → SameCall ρ (size p) x y
+  pub by-9 : NoneOneWay atBinary64 (rowAt p) list → (r : Refusal) → x .answer .outcome ≡ Refused r → r .number ≡ 9 → SameCall ρ (size p) x y
   -- whatever the directions: refused by 1, 2, 4, 8 or 5, as it is
   pub by-checks : (r : Refusal) → x .answer .outcome ≡ Refused r → r .number ≢ 9 → SameRefusal p p′ l r x y
 

@@ -4,7 +4,7 @@ use mathlib.Core.List.{List}
 use Prim.Native.Nat.{ℕ, _≤_}
 use lib.ListN.{length, getD}
 use lib.Dec.{eqb}
-use Rattle.events.specs.Binary64.{binary64}
+use Rattle.events.specs.Binary64.{atBinary64}
 use Rattle.events.specs.Pool.{Pool, stored}
 use Rattle.checks.specs.Checks.{maxEvents}
 use Rattle.contours.specs.Connect.{outcomeOf, traced}
@@ -49,4 +49,4 @@ pub record Spacious (p : Pool) (list o q : List ℕ) (t : Rows) (ms : List ℕ) 
   pub walked : length list ≤ length ms
 
 unfoldable pub connectAccepted : Pool → List ℕ → Lent → After
-connectAccepted p list l = after (outcomeOf binary64 stored p list (traced binary64 stored p list)) p l
+connectAccepted p list l = after (outcomeOf atBinary64 stored p list (traced atBinary64 stored p list)) p l

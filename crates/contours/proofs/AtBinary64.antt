@@ -9,7 +9,7 @@ use lib.ListN.{length, getD}
 use Rattle.refusals.specs.declared.Refusal.{Refusal}
 use Rattle.numbers.specs.declared.Coordinate.{Coordinate}
 use Rattle.events.specs.Coordinates.{same}
-use Rattle.events.specs.Binary64.{binary64}
+use Rattle.events.specs.Binary64.{atBinary64}
 use Rattle.events.specs.Pool.{Pool, size, rowAt, stored}
 use Rattle.events.proofs.Stored.{pool-stored}
 use Rattle.order.proofs.AtBinary64.{laws, fine}
@@ -38,24 +38,24 @@ module _ (ρ : ℕ → ℕ) (p p′ : Pool) (rn : RenumberedPool ρ p p′) (lis
   unfolding size
   one-size = ap₂ min (rn .points) (rn .marks)
 
-  alike : NoneOneWay binary64 (rowAt p) list → Alike stored ρ (size p) (connectPool p list room) (connectPool p′ list′ room)
+  alike : NoneOneWay atBinary64 (rowAt p) list → Alike stored ρ (size p) (connectPool p list room) (connectPool p′ list′ room)
   unfolding connectPool stored laws
   alike free =
       rw (rn .points, rn .marks)
-      (D.order binary64 stored pool-stored laws fine ρ p p′ (rn .records) one-size list list′ again (length (p .points)) (length (p .marks)) room free)
+      (D.order atBinary64 stored pool-stored laws fine ρ p p′ (rn .records) one-size list list′ again (length (p .points)) (length (p .marks)) room free)
 
   -- Order: numbered and listed in any other way, the records give the same contours, corners, parents, depths and holes, bit for bit.
-  pub order : NoneOneWay binary64 (rowAt p) list → (f : Finished Coordinate Pool) → connectPool p list room ≡ connected f
+  pub order : NoneOneWay atBinary64 (rowAt p) list → (f : Finished Coordinate Pool) → connectPool p list room ≡ connected f
       → (g : Finished Coordinate Pool) × (connectPool p′ list′ room ≡ connected g) × SameFinished stored ρ (size p) f g
   order free f e = D.alike-connected stored ρ (size p) (alike free) f e
 
   -- the same, of what is told: corners, parents, depths, holes and the count of open contours are the same lists of bits
-  pub corners-order : NoneOneWay binary64 (rowAt p) list → (f : Finished Coordinate Pool) → connectPool p list room ≡ connected f
+  pub corners-order : NoneOneWay atBinary64 (rowAt p) list → (f : Finished Coordinate Pool) → connectPool p list room ≡ connected f
       → (g : Finished Coordinate Pool) × (connectPool p′ list′ room ≡ connected g) × (toldOf (g .outlines) ≡ toldOf (f .outlines))
   corners-order free f e = let h = order free f e in (h .0, h .1, ap toldOf (h .2 .outlines))
 
   -- stopped by 9, it is stopped by 9 at the renamed record, with the same contours before it
-  pub order-stopped : NoneOneWay binary64 (rowAt p) list → (x : Refusal) (f : Finished Coordinate Pool) → connectPool p list room ≡ stopped x f
+  pub order-stopped : NoneOneWay atBinary64 (rowAt p) list → (x : Refusal) (f : Finished Coordinate Pool) → connectPool p list room ≡ stopped x f
       → (g : Finished Coordinate Pool) × (connectPool p′ list′ room ≡ stopped (record { number = x .number; place = ρ (x .place) }) g) × SameFinished stored ρ (size p) f g
   order-stopped free x f e = D.alike-stopped stored ρ (size p) (alike free) x f e
 
@@ -64,35 +64,35 @@ module _ (ρ : ℕ → ℕ) (p p′ : Pool) (rn : RenumberedPool ρ p p′) (lis
   unfolding connectPool stored laws
   refusals x e =
       rw (rn .points, rn .marks)
-      (D.refusals binary64 stored pool-stored laws fine ρ p p′ (rn .records) one-size list list′ again (length (p .points)) (length (p .marks)) room x e)
+      (D.refusals atBinary64 stored pool-stored laws fine ρ p p′ (rn .records) one-size list list′ again (length (p .points)) (length (p .marks)) room x e)
 
 -- ---- closing and once
 
 module _ (p : Pool) (list : List ℕ) (room : Room) (f : Finished Coordinate Pool) (e : connectPool p list room ≡ connected f) where
   -- Closing: if every point ends an even number of result edges, every contour closes, and none is counted open.
-  pub closing : EvenEnds binary64 (rowAt p) list → ((o : Outline Coordinate) → List·Memᴰ o (f .outlines) → closes (same binary64) (o .corners) ≡ true) × (openCount (f .outlines) ≡ 0)
+  pub closing : EvenEnds atBinary64 (rowAt p) list → ((o : Outline Coordinate) → List·Memᴰ o (f .outlines) → closes (same atBinary64) (o .corners) ≡ true) × (openCount (f .outlines) ≡ 0)
   unfolding connectPool stored laws
-  closing even = D.closing binary64 stored laws fine p (length (p .points)) (length (p .marks)) list room f e even
+  closing even = D.closing atBinary64 stored laws fine p (length (p .points)) (length (p .marks)) list room f e even
 
   -- Once: each result edge is walked in exactly one contour, once.
-  pub once : (r : ℕ) → List·Memᴰ r (results (rowAt p) list) → timesWalked (rowAt p) (ordered (rowAt p) binary64 list) r (f .outlines) ≡ 1
+  pub once : (r : ℕ) → List·Memᴰ r (results (rowAt p) list) → timesWalked (rowAt p) (ordered (rowAt p) atBinary64 list) r (f .outlines) ≡ 1
   unfolding connectPool stored laws
-  once r m = D.once binary64 stored laws fine p (length (p .points)) (length (p .marks)) list room f e r m
+  once r m = D.once atBinary64 stored laws fine p (length (p .points)) (length (p .marks)) list room f e r m
 
   -- ---- the same, of what is told: corners, and result edges by their left records
 
   -- Each two neighbouring corners are the two ends of a result edge, and each result edge is such a pair at exactly one place of exactly one contour.
-  pub walls : OneToOne binary64 (rowAt p) list (toldOf (f .outlines) .corners)
+  pub walls : OneToOne atBinary64 (rowAt p) list (toldOf (f .outlines) .corners)
   unfolding connectPool stored laws
-  walls = W.one-to-one binary64 stored laws fine p (length (p .points)) (length (p .marks)) list room f e
+  walls = W.one-to-one atBinary64 stored laws fine p (length (p .points)) (length (p .marks)) list room f e
 
   -- the count of open contours is that of the contours whose first and last corners differ
-  pub unclosed-told : toldOf (f .outlines) .unclosed ≡ unclosedAmong (same binary64) (toldOf (f .outlines) .corners)
+  pub unclosed-told : toldOf (f .outlines) .unclosed ≡ unclosedAmong (same atBinary64) (toldOf (f .outlines) .corners)
   unfolding connectPool stored
-  unclosed-told = T.unclosed-told binary64 stored p (length (p .points)) (length (p .marks)) list room f e
+  unclosed-told = T.unclosed-told atBinary64 stored p (length (p .points)) (length (p .marks)) list room f e
 
   -- if every point ends an even number of result edges, it is 0
-  pub none-unclosed : EvenEnds binary64 (rowAt p) list → toldOf (f .outlines) .unclosed ≡ 0
+  pub none-unclosed : EvenEnds atBinary64 (rowAt p) list → toldOf (f .outlines) .unclosed ≡ 0
   unfolding toldOf
   none-unclosed even = closing even .1
 
@@ -100,45 +100,45 @@ module _ (p : Pool) (list : List ℕ) (room : Room) (f : Finished Coordinate Poo
 
 module _ (p : Pool) (list : List ℕ) (room : Room) (f : Finished Coordinate Pool) (e : given (connectPool p list room) ≡ some f) where
   -- both ends of a listed record's edge have fit points, so that event order reads no other
-  pub fit-ends : (r : ℕ) → List·Memᴰ r list → (binary64 .fit (rowAt p r .point) ≡ true) × (binary64 .fit (rowAt p (rowAt p r .partner) .point) ≡ true)
+  pub fit-ends : (r : ℕ) → List·Memᴰ r list → (atBinary64 .fit (rowAt p r .point) ≡ true) × (atBinary64 .fit (rowAt p (rowAt p r .partner) .point) ≡ true)
   unfolding connectPool stored
-  fit-ends = G.fit-ends binary64 stored p (length (p .points)) (length (p .marks)) list room f e
+  fit-ends = G.fit-ends atBinary64 stored p (length (p .points)) (length (p .marks)) list room f e
 
   -- the room that refusal 5 asks for is enough
   pub enough : (length (f .outlines) ≤ room .contours) × (cornerCount (f .outlines) ≤ room .points) × (holeCount (f .outlines) ≤ room .holes)
   unfolding connectPool stored laws
-  enough = G.enough binary64 stored laws fine p (length (p .points)) (length (p .marks)) list room f e
+  enough = G.enough atBinary64 stored laws fine p (length (p .points)) (length (p .marks)) list room f e
 
   -- every parent and hole is one of the contours, and every depth is below how many they are
   pub numbers : All (Numbers (length (f .outlines))) (f .outlines)
   unfolding connectPool stored laws
-  numbers = G.numbers binary64 stored laws fine p (length (p .points)) (length (p .marks)) list room f e
+  numbers = G.numbers atBinary64 stored laws fine p (length (p .points)) (length (p .marks)) list room f e
 
   module _ (o : Outline Coordinate) (m : List·Memᴰ o (f .outlines)) where
     pub one-more : length (o .corners) ≡ suc (length (o .trail))
     unfolding connectPool stored laws
-    one-more = G.one-more binary64 stored laws fine p (length (p .points)) (length (p .marks)) list room f e o m
+    one-more = G.one-more atBinary64 stored laws fine p (length (p .points)) (length (p .marks)) list room f e o m
 
     -- each two neighbouring corners are the two ends of a result edge, by value
-    pub neighbours : (k : ℕ) → k < length (o .trail) → (d : Coordinate) → ResultEdgeAt binary64 (rowAt p) list o k d (getD (ordered (rowAt p) binary64 list) (getD (o .trail) k 0) 0)
+    pub neighbours : (k : ℕ) → k < length (o .trail) → (d : Coordinate) → ResultEdgeAt atBinary64 (rowAt p) list o k d (getD (ordered (rowAt p) atBinary64 list) (getD (o .trail) k 0) 0)
     unfolding connectPool stored laws
-    neighbours k l d = G.neighbours binary64 stored laws fine p (length (p .points)) (length (p .marks)) list room f e o m k l d
+    neighbours k l d = G.neighbours atBinary64 stored laws fine p (length (p .points)) (length (p .marks)) list room f e o m k l d
 
 -- ---- refused exactly as the table says
 
-pub cause : (p : Pool) (list : List ℕ) (room : Room) (x : Refusal) → connectPool p list room ≡ refused x → Cause binary64 (rowAt p) (size p) (length (p .points)) (length (p .marks)) list room x
+pub cause : (p : Pool) (list : List ℕ) (room : Room) (x : Refusal) → connectPool p list room ≡ refused x → Cause atBinary64 (rowAt p) (size p) (length (p .points)) (length (p .marks)) list room x
 unfolding connectPool stored
-cause p list room x e = D.refused-cause binary64 stored p (length (p .points)) (length (p .marks)) list room x e
+cause p list room x e = D.refused-cause atBinary64 stored p (length (p .points)) (length (p .marks)) list room x e
 
 -- by 9 as contours are made, and by 9 only then
 pub stopped-nine : (p : Pool) (list : List ℕ) (room : Room) (x : Refusal) (f : Finished Coordinate Pool) → connectPool p list room ≡ stopped x f → x .number ≡ 9
 unfolding connectPool stored
-stopped-nine p list room x f e = D.stopped-nine binary64 stored p (length (p .points)) (length (p .marks)) list room x f e
+stopped-nine p list room x f e = D.stopped-nine atBinary64 stored p (length (p .points)) (length (p .marks)) list room x f e
 
 pub refused-not-nine : (p : Pool) (list : List ℕ) (room : Room) (x : Refusal) → connectPool p list room ≡ refused x → x .number ≢ 9
-refused-not-nine p list room x e = D.cause-not-9 binary64 (rowAt p) (size p) (length (p .points)) (length (p .marks)) list room x (cause p list room x e)
+refused-not-nine p list room x e = D.cause-not-9 atBinary64 (rowAt p) (size p) (length (p .points)) (length (p .marks)) list room x (cause p list room x e)
 
 -- A place for each listed event, and half as many for contours and for holes, are never too few.
 pub always-room : (p : Pool) (list : List ℕ) (room : Room) → Roomy list room → (x : Refusal) → connectPool p list room ≡ refused x → x .number ≢ 5
 unfolding stored laws
-always-room p list room h x e = R.cause-not-5 binary64 (rowAt p) laws fine (size p) list (length (p .points)) (length (p .marks)) room h x (cause p list room x e)
+always-room p list room h x e = R.cause-not-5 atBinary64 (rowAt p) laws fine (size p) list (length (p .points)) (length (p .marks)) room h x (cause p list room x e)

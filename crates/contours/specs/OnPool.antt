@@ -3,10 +3,10 @@ use mathlib.Core.List.{List}
 use Prim.Native.Nat.{ℕ}
 use lib.ListN.{length}
 use Rattle.numbers.specs.declared.Coordinate.{Coordinate}
-use Rattle.events.specs.Binary64.{binary64}
+use Rattle.events.specs.Binary64.{atBinary64}
 use Rattle.events.specs.Pool.{Pool, stored}
 use Rattle.contours.specs.Accept.{Room}
 use Rattle.contours.specs.Connect.{Outcome, connect}
 
 unfoldable pub connectPool : Pool → List ℕ → Room → Outcome Coordinate Pool
-connectPool p list room = connect binary64 stored p (length (p .points)) (length (p .marks)) list room
+connectPool p list room = connect atBinary64 stored p (length (p .points)) (length (p .marks)) list room

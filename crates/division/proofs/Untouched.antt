@@ -6,7 +6,7 @@ use mathlib.Core.List.{[], _∷_}
 use Prim.Native.Nat.{ℕ, _+_, _<_, min}
 use native.Mathlib.Omega.{arith}
 use Rattle.numbers.specs.declared.Coordinate.{Coordinate}
-use Rattle.events.specs.Binary64.{binary64}
+use Rattle.events.specs.Binary64.{atBinary64}
 use Rattle.events.specs.Event.{Event}
 use Rattle.events.specs.Store.{look}
 use Rattle.events.specs.Pool.{Pool, stored}
@@ -80,17 +80,17 @@ module _ (s : Pool) (used i : ℕ) (p : Coordinate) where
   abbrev row : ℕ → Event Coordinate
   row r = look stored s used r
 
-  pub untouched : (d : Divided) → divide binary64 stored s used i p .answer ≡ Done d → Segment binary64 row used i
-      → Untouched s (divide binary64 stored s used i p .store) used i (row i .partner) (d .swapped)
+  pub untouched : (d : Divided) → divide atBinary64 stored s used i p .answer ≡ Done d → Segment atBinary64 row used i
+      → Untouched s (divide atBinary64 stored s used i p .store) used i (row i .partner) (d .swapped)
   unfolding done
   untouched d h w =
-      let g = passed binary64 stored s used i p d h in
+      let g = passed atBinary64 stored s used i p d h in
       let own = w .paired .own in
       let other = w .paired .other in
       let free = g .free in
       let apart : i ≢ row i .partner = λ e. true≢false (sym (g .left) ∙ ap (λ r. row r .left) e ∙ w .right) in
-      let keep = keeps binary64 (row i) (row (row i .partner)) (moved binary64 (row i .point) p) in
-      let made = parted-lent s used i (row i) (row (row i .partner)) (moved binary64 (row i .point) p) keep (omega arith) own other apart (sym (look-in stored s used i own)) (sym (look-in stored s used (row i .partner) other)) in
+      let keep = keeps atBinary64 (row i) (row (row i .partner)) (moved atBinary64 (row i .point) p) in
+      let made = parted-lent s used i (row i) (row (row i .partner)) (moved atBinary64 (row i .point) p) keep (omega arith) own other apart (sym (look-in stored s used i own)) (sym (look-in stored s used (row i .partner) other)) in
       let swapped : not keep ≡ d .swapped = ap (λ (t : Divided). t .swapped) (told move-laws pool-stored s used i p d h g) in
-      subst (λ (b : Bool). Untouched s (divide binary64 stored s used i p .store) used i (row i .partner) b) swapped
+      subst (λ (b : Bool). Untouched s (divide atBinary64 stored s used i p .store) used i (row i .partner) b) swapped
       (subst (λ (a : After Pool). Untouched s (a .store) used i (row i .partner) (not keep)) (sym (g .is)) made)

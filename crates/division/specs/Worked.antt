@@ -6,7 +6,7 @@ use Prim.Native.Nat.{ℕ}
 use lib.IntN.{pos, negsuc}
 use lib.Ieee.{Float, fin}
 use Rattle.numbers.specs.declared.Coordinate.{Coordinate}
-use Rattle.events.specs.Binary64.{binary64}
+use Rattle.events.specs.Binary64.{atBinary64}
 use Rattle.events.specs.Store.{look}
 use Rattle.events.specs.Pool.{Pool, pool, stored}
 use Rattle.division.specs.declared.Division.the-variants.{Done}
@@ -65,8 +65,8 @@ pub record Cut (after : After Pool) (moved swapped : Bool) (p : Coordinate) (fla
 
 -- (0,1)-(4,0) cut at (0,0.5): the cut becomes (2^-1074,0.5)
 abbrev pub P10 : Type 0
-P10 = Cut (divide binary64 stored (segment (at zero one) (at four zero)) 2 0 (at zero half)) true false (at least half) (true ∷ false ∷ false ∷ true ∷ [])
+P10 = Cut (divide atBinary64 stored (segment (at zero one) (at four zero)) 2 0 (at zero half)) true false (at least half) (true ∷ false ∷ false ∷ true ∷ [])
 
 -- (0,0)-(2,1) cut at (2,1.5): flags change places
 abbrev pub P11 : Type 0
-P11 = Cut (divide binary64 stored (segment (at zero zero) (at two one)) 2 0 (at two oneAndHalf)) false true (at two oneAndHalf) (true ∷ true ∷ false ∷ false ∷ [])
+P11 = Cut (divide atBinary64 stored (segment (at zero zero) (at two one)) 2 0 (at two oneAndHalf)) false true (at two oneAndHalf) (true ∷ true ∷ false ∷ false ∷ [])

@@ -1,7 +1,7 @@
 // The ends of a divided segment.
 ghost use mathlib.Core.Path.{_≡_};
 ghost use mathlib.Core.Bool.{true, cond};
-ghost use Rattle.events.specs.Binary64.{binary64};
+ghost use Rattle.events.specs.Binary64.{atBinary64};
 ghost use Rattle.events.specs.Event.{shown};
 ghost use Rattle.division.specs.Struct as Struct;
 ghost use Rattle.division.specs.Division as Spec;
@@ -48,7 +48,7 @@ pub fn flag_after(left: bool, keep: bool) -> bool
 
 // The new left end comes before the old right end f: otherwise their flags change places.
 pub fn keeps(e: Event, f: Event, c: Coordinate) -> bool
-    ensures { λ r. ⌜ r ≡ Spec.keeps binary64 (shown e) (shown f) c ⌝ }
+    ensures { λ r. ⌜ r ≡ Spec.keeps atBinary64 (shown e) (shown f) c ⌝ }
 {
     let left = key_of(new_end(e, c, true, e.partner), f.point);
     before(left, key_of(f, e.point))

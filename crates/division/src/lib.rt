@@ -3,7 +3,7 @@
 //     (i)--------(used)(used + 1)--------(partner)
 ghost use mathlib.Core.Path.{_≡_};
 ghost use Prim.Native.Nat.{_+_, _<_};
-ghost use Rattle.events.specs.Binary64.{binary64};
+ghost use Rattle.events.specs.Binary64.{atBinary64};
 ghost use Rattle.events.specs.Event.{shown};
 ghost use Rattle.events.specs.Pool.{pool, stored};
 ghost use Rattle.division.specs.Division.{numbers, refusal, full, parted, divide};
@@ -103,8 +103,8 @@ pub fn divide_segment(
     i: u32,
     cut: Coordinate,
 ) -> Division
-    ensures { λ r. ⌜ r ≡ divide binary64 stored (pool (now (points .entry)) (now (marks .entry))) used i cut .answer ⌝ }
-    ensures { λ _. ⌜ pool (now (points .exit)) (now (marks .exit)) ≡ divide binary64 stored (pool (now (points .entry)) (now (marks .entry))) used i cut .store ⌝ }
+    ensures { λ r. ⌜ r ≡ divide atBinary64 stored (pool (now (points .entry)) (now (marks .entry))) used i cut .answer ⌝ }
+    ensures { λ _. ⌜ pool (now (points .exit)) (now (marks .exit)) ≡ divide atBinary64 stored (pool (now (points .entry)) (now (marks .entry))) used i cut .store ⌝ }
 {
     let e = read_used(points, marks, used, i);
     let f = read_used(points, marks, used, e.partner);

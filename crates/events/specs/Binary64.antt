@@ -1,4 +1,4 @@
--- Binary64 as a kind of coordinate, and the crossing on it in each mode.
+-- Binary64 as a kind of coordinate (`lib.Ieee` calls the format `binary64`), and the crossing on it in each mode.
 use mathlib.Core.Bool.{Bool, not, _&&_}
 use Prim.Native.Nat.{ℕ}
 use lib.Ieee.{lt, eq}
@@ -11,8 +11,8 @@ use Rattle.crossing.specs.declared.LineIntersection.the-variants.{None, Point, 
 use Rattle.crossing.specs.Crossing.{intersectionIn}
 use Rattle.events.specs.Coordinates.{Coordinates, Cross, none, lost, point, overlap, Crossing}
 
-unfoldable pub binary64 : Coordinates Coordinate
-binary64 =
+unfoldable pub atBinary64 : Coordinates Coordinate
+atBinary64 =
     record {
       fit = λ p. not (unfit (p .x)) && not (unfit (p .y));
       lessX = λ p q. lt (p .x) (q .x);

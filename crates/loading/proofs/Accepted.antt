@@ -9,7 +9,7 @@ use lib.Dec.{eqb, ltb}
 use lib.ListN.{length}
 use lib.Ieee.{Float}
 use Rattle.refusals.specs.declared.Refusal.{Refusal}
-use Rattle.events.specs.Binary64.{binary64}
+use Rattle.events.specs.Binary64.{atBinary64}
 use Rattle.events.specs.Pool.{Pool, stored}
 use Rattle.checks.specs.declared.Check.{Check}
 use Rattle.checks.specs.declared.Check.the-variants.{Passed, Refused}
@@ -33,7 +33,7 @@ pub record Accepted (ends : List (List Float)) (labels : List (List ℕ)) (p : P
   pub few : length ends ≤ maxEdges
   pub sizes : Sized (length (p .points)) (length (p .marks))
   pub room : 2 * length ends ≤ length (p .points)
-  pub each : checkedEdges binary64 0 (edgesOf ends labels) ≡ Passed
+  pub each : checkedEdges atBinary64 0 (edgesOf ends labels) ≡ Passed
 
 pub accepted : (ends : List (List Float)) (labels : List (List ℕ)) (p : Pool) → accept ends labels p ≡ Passed → Accepted ends labels p
 unfolding accept edgesSized poolSized
@@ -71,6 +71,6 @@ module _ (ends : List (List Float)) (labels : List (List ℕ)) (p : Pool) {t : C
   unfolding load afterChecks
   answer-refused x e = rw (← told, e)
 
-  pub answer-done : t ≡ Passed → {used : ℕ} {q : Pool} → used ≡ 2 * length (edgesOf ends labels) → q ≡ loaded binary64 stored p 0 (edgesOf ends labels) → after (Loaded.Done used) q ≡ load ends labels p
+  pub answer-done : t ≡ Passed → {used : ℕ} {q : Pool} → used ≡ 2 * length (edgesOf ends labels) → q ≡ loaded atBinary64 stored p 0 (edgesOf ends labels) → after (Loaded.Done used) q ≡ load ends labels p
   unfolding load afterChecks
   answer-done e u q = rw (← told, e, u, q)

@@ -13,7 +13,7 @@ use Rattle.numbers.specs.declared.Coordinate.{Coordinate}
 use Rattle.events.specs.declared.Link.the-variants.{None, To}
 use Rattle.events.specs.Coordinates.{Coordinates, same, ahead}
 use Rattle.events.specs.Event.{Event}
-use Rattle.events.specs.Binary64.{binary64}
+use Rattle.events.specs.Binary64.{atBinary64}
 use Rattle.events.specs.Pool.{Pool, size, rowAt, stored, thereNumber}
 use Rattle.events.proofs.Stored.{pool-stored}
 use Rattle.order.proofs.Laws as Laws
@@ -112,30 +112,30 @@ module _ {P : Type 0} (C : Coordinates P) (row : ℕ → Event P) (n : ℕ) wher
 
 -- ---- the lent pool
 
-apart : (p q : Coordinate) → binary64 .fit p ≡ true → binary64 .fit q ≡ true → same binary64 p q ≡ false → ahead binary64 p q ≡ not (ahead binary64 q p)
+apart : (p q : Coordinate) → atBinary64 .fit p ≡ true → atBinary64 .fit q ≡ true → same atBinary64 p q ≡ false → ahead atBinary64 p q ≡ not (ahead atBinary64 q p)
 unfolding laws
 apart p q f g d = Laws.ahead-apart laws p q (fine p f) (fine q g) d
 
 module _ (ends : List (List Float)) (labels : List (List ℕ)) (p : Pool) where
-  edges-sound : accept ends labels p ≡ Passed → let n = 2 * length (edgesOf ends labels) in checked binary64 (rowAt (loaded binary64 stored p 0 (edgesOf ends labels))) n (numbersFrom 0 n) ≡ Passed
+  edges-sound : accept ends labels p ≡ Passed → let n = 2 * length (edgesOf ends labels) in checked atBinary64 (rowAt (loaded atBinary64 stored p 0 (edgesOf ends labels))) n (numbersFrom 0 n) ≡ Passed
   unfolding stored size
   edges-sound e =
       let l = edgesOf ends labels in
       let n = 2 * length l in
       let a = accepted ends labels p e in
       let many = as-many ends labels p a in
-      let held = rows binary64 pool-stored l p 0 (omega (arith, many, a .room, a .sizes .equal)) in
-      passed-checked binary64 _ n (numbersFrom 0 n)
+      let held = rows atBinary64 pool-stored l p 0 (omega (arith, many, a .room, a .sizes .equal)) in
+      passed-checked atBinary64 _ n (numbersFrom 0 n)
       (λ k h.
       let r = rw length-numbers at h in
-      rw (number-at 0 n k r) (sounds binary64 _ n apart held (a .each) (omega arith) (0 + k) (omega arith) (omega arith)))
+      rw (number-at 0 n k r) (sounds atBinary64 _ n apart held (a .each) (omega arith) (0 + k) (omega arith) (omega arith)))
 
   -- loading answered with the places in use: their records pass refusals 2 and 4
-  pub as-loaded : (n : ℕ) → load ends labels p .answer ≡ Loaded.Done n → checked binary64 (rowAt (load ends labels p .pool)) n (numbersFrom 0 n) ≡ Passed
+  pub as-loaded : (n : ℕ) → load ends labels p .answer ≡ Loaded.Done n → checked atBinary64 (rowAt (load ends labels p .pool)) n (numbersFrom 0 n) ≡ Passed
   unfolding load afterChecks
   as-loaded n = by (accept ends labels p) refl
     where
-      by : (t : Check) → accept ends labels p ≡ t → afterChecks t (edgesOf ends labels) p .answer ≡ Loaded.Done n → checked binary64 (rowAt (afterChecks t (edgesOf ends labels) p .pool)) n (numbersFrom 0 n) ≡ Passed
+      by : (t : Check) → accept ends labels p ≡ t → afterChecks t (edgesOf ends labels) p .answer ≡ Loaded.Done n → checked atBinary64 (rowAt (afterChecks t (edgesOf ends labels) p .pool)) n (numbersFrom 0 n) ≡ Passed
       by Passed t d =
           let q : 2 * length (edgesOf ends labels) ≡ n = cc in
           rw (← q) (edges-sound t)

@@ -8,7 +8,7 @@ use Rattle.numbers.specs.declared.Coordinate.{Coordinate}
 use Rattle.events.specs.Coordinates.{Coordinates}
 use Rattle.events.specs.Event.{Event}
 use Rattle.events.specs.Store.{Store}
-use Rattle.events.specs.Binary64.{binary64}
+use Rattle.events.specs.Binary64.{atBinary64}
 use Rattle.events.specs.Pool.{Pool, pointOf, marksOf, enter, stored}
 use Rattle.checks.specs.declared.Check.{Check}
 use Rattle.checks.specs.declared.Check.the-variants.{Passed, Refused}
@@ -23,13 +23,13 @@ kept-loaded C K f h s i [] = refl
 kept-loaded C K f h s i (e ∷ l) = kept-loaded C K f h (loadedEdge C K s i e) (suc i) l ∙ h _ _ _ ∙ h _ _ _
 
 module _ (p : Pool) (i : ℕ) (l : List (Edge Coordinate)) where
-  pub points-loaded : length (loaded binary64 stored p i l .points) ≡ length (p .points)
+  pub points-loaded : length (loaded atBinary64 stored p i l .points) ≡ length (p .points)
   unfolding stored enter
-  points-loaded = kept-loaded binary64 stored (λ q. length (q .points)) (λ q i e. length-set (q .points) i (pointOf e)) p i l
+  points-loaded = kept-loaded atBinary64 stored (λ q. length (q .points)) (λ q i e. length-set (q .points) i (pointOf e)) p i l
 
-  pub marks-loaded : length (loaded binary64 stored p i l .marks) ≡ length (p .marks)
+  pub marks-loaded : length (loaded atBinary64 stored p i l .marks) ≡ length (p .marks)
   unfolding stored enter
-  marks-loaded = kept-loaded binary64 stored (λ q. length (q .marks)) (λ q i e. length-set (q .marks) i (marksOf e)) p i l
+  marks-loaded = kept-loaded atBinary64 stored (λ q. length (q .marks)) (λ q i e. length-set (q .marks) i (marksOf e)) p i l
 
 -- refused or not
 module _ (ends : List (List Float)) (labels : List (List ℕ)) (p : Pool) where

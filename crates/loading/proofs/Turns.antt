@@ -9,7 +9,7 @@ use lib.Seq.{drop-length}
 use Rattle.refusals.specs.declared.Refusal.{Refusal}
 use Rattle.numbers.specs.declared.Coordinate.{Coordinate}
 use Rattle.events.specs.Coordinates.{Coordinates, ahead}
-use Rattle.events.specs.Binary64.{binary64}
+use Rattle.events.specs.Binary64.{atBinary64}
 use Rattle.events.specs.Event.{Event}
 use Rattle.events.specs.Store.{Store}
 use Rattle.events.specs.Pool.{Pool, enter, stored}
@@ -53,11 +53,11 @@ module _ {P : Type 0} (C : Coordinates P) (l : List (Edge P)) where
 
 -- ---- an edge's two records in the lent pool
 pub both-ends : (p q r : Pool) (i : ℕ) (e : Edge Coordinate) {left : Bool} {a b : Event Coordinate}
-    → left ≡ ahead binary64 (e .from) (e .to)
+    → left ≡ ahead atBinary64 (e .from) (e .to)
     → a ≡ end e (e .from) left (2 * i + 1)
     → q ≡ enter p (2 * i) a
     → b ≡ end e (e .to) (not left) (2 * i)
     → r ≡ enter q (2 * i + 1) b
-    → r ≡ loadedEdge binary64 stored p i e
+    → r ≡ loadedEdge atBinary64 stored p i e
 unfolding loadedEdge firstEnd secondEnd stored
 both-ends p q r i e l f s g t = rw (t, s, g, f, l)

@@ -7,7 +7,7 @@ use lib.Dec.{eqb, ltb}
 use lib.Ieee.{Float, nan}
 use Rattle.numbers.specs.Binary64.{unsigned}
 use Rattle.numbers.specs.declared.Coordinate.{Coordinate}
-use Rattle.events.specs.Binary64.{binary64}
+use Rattle.events.specs.Binary64.{atBinary64}
 use Rattle.events.specs.Pool.{Pool, stored}
 use Rattle.checks.specs.declared.Check.{Check}
 use Rattle.checks.specs.declared.Check.the-variants.{Passed, Refused as Struck}
@@ -55,7 +55,7 @@ poolSized points marks edges = cond (missized points marks || ltb points (2 * ed
 unfoldable pub accept : List (List Float) → List (List ℕ) → Pool → Check
 accept ends labels p =
     andThen (edgesSized (length ends) (length labels))
-    (andThen (poolSized (length (p .points)) (length (p .marks)) (length ends)) (checkedEdges binary64 0 (edgesOf ends labels)))
+    (andThen (poolSized (length (p .points)) (length (p .marks)) (length ends)) (checkedEdges atBinary64 0 (edgesOf ends labels)))
 
 -- ---- the answer, with the places in use, and the pool; a refused call leaves it as lent
 
@@ -67,7 +67,7 @@ abbrev pub after : Loaded → Pool → After
 after a p = record { answer = a; pool = p }
 
 unfoldable pub afterChecks : Check → List (Edge Coordinate) → Pool → After
-afterChecks Passed edges p = record { answer = Done (2 * length edges); pool = loaded binary64 stored p 0 edges }
+afterChecks Passed edges p = record { answer = Done (2 * length edges); pool = loaded atBinary64 stored p 0 edges }
 afterChecks (Struck r) edges p = record { answer = Refused r; pool = p }
 
 unfoldable pub load : List (List Float) → List (List ℕ) → Pool → After

@@ -2,7 +2,7 @@
 ghost use mathlib.Core.Path.{_≡_};
 ghost use mathlib.Core.Bool.{not, _||_};
 ghost use lib.ListN.{length};
-ghost use Rattle.events.specs.Binary64.{binary64};
+ghost use Rattle.events.specs.Binary64.{atBinary64};
 ghost use Rattle.events.specs.Pool.{pool};
 ghost use Rattle.checks.specs.declared.Check.the-variants.{Refused as Struck};
 ghost use Rattle.loading.specs.Loading.{checkedEdge, checkedEdges};
@@ -61,7 +61,7 @@ fn check_pool(ends: &[[f64; 4]], points: &[[f64; 2]], marks: &[[u32; 12]]) -> Ch
 }
 
 fn is_unfit_edge(from: Coordinate, to: Coordinate) -> bool
-    ensures { λ r. ⌜ r ≡ (not (binary64 .fit from) || not (binary64 .fit to)) ⌝ }
+    ensures { λ r. ⌜ r ≡ (not (atBinary64 .fit from) || not (atBinary64 .fit to)) ⌝ }
 {
     if is_unfit_point(from) {
         return true;
@@ -70,7 +70,7 @@ fn is_unfit_edge(from: Coordinate, to: Coordinate) -> bool
 }
 
 fn check_edge(e: Edge, i: usize) -> Check
-    ensures { λ r. ⌜ r ≡ checkedEdge binary64 i (shownEdge e) ⌝ }
+    ensures { λ r. ⌜ r ≡ checkedEdge atBinary64 i (shownEdge e) ⌝ }
 {
     let from = e.from;
     let to = e.to;
@@ -85,7 +85,7 @@ fn check_edge(e: Edge, i: usize) -> Check
 
 // Each edge in turn.
 fn check_edges(ends: &[[f64; 4]], labels: &[[u32; 2]]) -> Check
-    ensures { λ r. ⌜ r ≡ checkedEdges binary64 0 (edgesOf (now (ends .entry)) (now (labels .entry))) ⌝ }
+    ensures { λ r. ⌜ r ≡ checkedEdges atBinary64 0 (edgesOf (now (ends .entry)) (now (labels .entry))) ⌝ }
 {
     let n = edge_count(ends, labels);
     let mut i = 0;

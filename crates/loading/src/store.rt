@@ -2,7 +2,7 @@
 ghost use mathlib.Core.Path.{_≡_};
 ghost use Prim.Native.Nat.{_*_, _<_, _≤_};
 ghost use lib.ListN.{length};
-ghost use Rattle.events.specs.Binary64.{binary64};
+ghost use Rattle.events.specs.Binary64.{atBinary64};
 ghost use Rattle.events.specs.Event.{shown};
 ghost use Rattle.events.specs.Pool.{pool, stored};
 ghost use Rattle.loading.specs.Loading as Loading;
@@ -26,7 +26,7 @@ fn end(e: Edge, p: Coordinate, left: bool, partner: u32) -> Event
 
 fn load_edge(points: &mut [[f64; 2]], marks: &mut [[u32; 12]], i: u32, e: Edge)
     requires { ⌜ i < maxEdges ⌝ }
-    ensures { λ _. ⌜ pool (now (points .exit)) (now (marks .exit)) ≡ loadedEdge binary64 stored (pool (now (points .entry)) (now (marks .entry))) i (shownEdge e) ⌝ }
+    ensures { λ _. ⌜ pool (now (points .exit)) (now (marks .exit)) ≡ loadedEdge atBinary64 stored (pool (now (points .entry)) (now (marks .entry))) i (shownEdge e) ⌝ }
 {
     let from = e.from;
     let to = e.to;
@@ -45,7 +45,7 @@ pub fn load_edges(
     marks: &mut [[u32; 12]],
 ) -> u32
     requires { ⌜ length (edgesOf (now ends) (now labels)) ≤ maxEdges ⌝ }
-    ensures { λ r. ⌜ (r ≡ 2 * length (edgesOf (now (ends .entry)) (now (labels .entry)))) × (pool (now (points .exit)) (now (marks .exit)) ≡ loaded binary64 stored (pool (now (points .entry)) (now (marks .entry))) 0 (edgesOf (now (ends .entry)) (now (labels .entry)))) ⌝ }
+    ensures { λ r. ⌜ (r ≡ 2 * length (edgesOf (now (ends .entry)) (now (labels .entry)))) × (pool (now (points .exit)) (now (marks .exit)) ≡ loaded atBinary64 stored (pool (now (points .entry)) (now (marks .entry))) 0 (edgesOf (now (ends .entry)) (now (labels .entry)))) ⌝ }
 {
     let n = edge_count(ends, labels);
     let mut i = 0;

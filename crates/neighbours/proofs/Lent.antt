@@ -7,7 +7,7 @@ use Prim.Native.Nat.{ℕ, _<_, _≤_}
 use native.Mathlib.Omega.{arith}
 use Rattle.events.specs.declared.EdgeType.{EdgeType}
 use Rattle.events.specs.declared.EdgeType.the-variants.{NonContributing}
-use Rattle.events.specs.Binary64.{binary64}
+use Rattle.events.specs.Binary64.{atBinary64}
 use Rattle.events.specs.Event.{Event}
 use Rattle.events.specs.Store.{look}
 use Rattle.events.specs.Pool.{Pool, stored}
@@ -26,7 +26,7 @@ module _ (s : Pool) (used a b : ℕ) (few : used ≤ stored .size s) (first-in-u
   once = stored .store s b (typed (look stored s used b) NonContributing)
 
   abbrev after : Pool
-  after = coincided binary64 stored s used a b
+  after = coincided atBinary64 stored s used a b
 
   once-size : stored .size once ≡ stored .size s
   once-size = pool-stored .size-store s b (typed (look stored s used b) NonContributing)

@@ -1,6 +1,6 @@
 // Neighbours (`possible_intersection.rs`): two segments that have become neighbours in the status are cut where they cross or overlap.
 ghost use mathlib.Core.Path.{_≡_};
-ghost use Rattle.events.specs.Binary64.{binary64, inMode};
+ghost use Rattle.events.specs.Binary64.{atBinary64, inMode};
 ghost use Rattle.events.specs.Pool.{pool, stored};
 ghost use Rattle.neighbours.specs.Neighbours.{meeting, meet};
 use crossing::intersection;
@@ -35,7 +35,7 @@ pub fn possible_intersection(
     b: u32,
     mode: u32,
 ) -> Neighbours
-    ensures { λ r. ⌜ meeting (pool (now (points .exit)) (now (marks .exit))) (r .used) (r .met) ≡ meet binary64 stored (inMode mode) (pool (now (points .entry)) (now (marks .entry))) used a b ⌝ }
+    ensures { λ r. ⌜ meeting (pool (now (points .exit)) (now (marks .exit))) (r .used) (r .met) ≡ meet atBinary64 stored (inMode mode) (pool (now (points .entry)) (now (marks .entry))) used a b ⌝ }
 {
     let left_a = left_point(points, marks, used, a);
     let right_a = right_point(points, marks, used, a);

@@ -2,7 +2,7 @@
 ghost use mathlib.Core.Path.{_≡_};
 ghost use mathlib.Core.Bool.{cond};
 ghost use Rattle.events.specs.Coordinates.{point};
-ghost use Rattle.events.specs.Binary64.{binary64, crossOf};
+ghost use Rattle.events.specs.Binary64.{atBinary64, crossOf};
 ghost use Rattle.events.specs.Pool.{pool, stored};
 ghost use Rattle.neighbours.specs.Step.{step};
 ghost use Rattle.neighbours.specs.Neighbours as Spec;
@@ -28,7 +28,7 @@ use refusals::Refusal;
 
 // p is an end of the segment of record r.
 fn at_end(points: &[[f64; 2]], marks: &[[u32; 12]], used: u32, r: u32, p: Coordinate) -> bool
-    ensures { λ x. ⌜ x ≡ Spec.atEnd binary64 stored (pool (now (points .entry)) (now (marks .entry))) used r p ⌝ }
+    ensures { λ x. ⌜ x ≡ Spec.atEnd atBinary64 stored (pool (now (points .entry)) (now (marks .entry))) used r p ⌝ }
 {
     if same_point(left_point(points, marks, used, r), p) {
         return true;
@@ -45,7 +45,7 @@ fn cross(
     b: u32,
     p: Coordinate,
 ) -> Step
-    ensures { λ r. ⌜ step (pool (now (points .exit)) (now (marks .exit))) (r .used) (r .stop) ≡ Spec.crossed binary64 stored (pool (now (points .entry)) (now (marks .entry))) used a b p ⌝ }
+    ensures { λ r. ⌜ step (pool (now (points .exit)) (now (marks .exit))) (r .used) (r .stop) ≡ Spec.crossed atBinary64 stored (pool (now (points .entry)) (now (marks .entry))) used a b p ⌝ }
 {
     let a_ends = at_end(points, marks, used, a, p);
     let b_ends = at_end(points, marks, used, b, p);
@@ -87,7 +87,7 @@ fn meet_at(
     one_left: bool,
     one_right: bool,
 ) -> Neighbours
-    ensures { λ r. ⌜ meeting (pool (now (points .exit)) (now (marks .exit))) (r .used) (r .met) ≡ Spec.meetBy binary64 stored (point p) (pool (now (points .entry)) (now (marks .entry))) used a b «one_left» «one_right» ⌝ }
+    ensures { λ r. ⌜ meeting (pool (now (points .exit)) (now (marks .exit))) (r .used) (r .met) ≡ Spec.meetBy atBinary64 stored (point p) (pool (now (points .entry)) (now (marks .entry))) used a b «one_left» «one_right» ⌝ }
 {
     if one_left {
         return ended(still(used), 0);
@@ -106,7 +106,7 @@ fn pick(test: bool, a: u32, b: u32) -> u32
 
 // The segment of a ends before that of b, in event order.
 fn ends_first(points: &[[f64; 2]], marks: &[[u32; 12]], used: u32, a: u32, b: u32) -> bool
-    ensures { λ r. ⌜ r ≡ Spec.endsFirst binary64 stored (pool (now (points .entry)) (now (marks .entry))) used a b ⌝ }
+    ensures { λ r. ⌜ r ≡ Spec.endsFirst atBinary64 stored (pool (now (points .entry)) (now (marks .entry))) used a b ⌝ }
 {
     let right_a = read_used(points, marks, used, a).partner;
     let right_b = read_used(points, marks, used, b).partner;
@@ -117,7 +117,7 @@ fn ends_first(points: &[[f64; 2]], marks: &[[u32; 12]], used: u32, a: u32, b: u3
 }
 
 fn begins_first(points: &[[f64; 2]], marks: &[[u32; 12]], used: u32, a: u32, b: u32) -> bool
-    ensures { λ r. ⌜ r ≡ Spec.beginsFirst binary64 stored (pool (now (points .entry)) (now (marks .entry))) used a b ⌝ }
+    ensures { λ r. ⌜ r ≡ Spec.beginsFirst atBinary64 stored (pool (now (points .entry)) (now (marks .entry))) used a b ⌝ }
 {
     before(
         key_used(points, marks, used, a),
@@ -126,7 +126,7 @@ fn begins_first(points: &[[f64; 2]], marks: &[[u32; 12]], used: u32, a: u32, b: 
 }
 
 fn one_layer(points: &[[f64; 2]], marks: &[[u32; 12]], used: u32, a: u32, b: u32) -> bool
-    ensures { λ r. ⌜ r ≡ Spec.oneLayer binary64 stored (pool (now (points .entry)) (now (marks .entry))) used a b ⌝ }
+    ensures { λ r. ⌜ r ≡ Spec.oneLayer atBinary64 stored (pool (now (points .entry)) (now (marks .entry))) used a b ⌝ }
 {
     read_used(points, marks, used, a).subject == read_used(points, marks, used, b).subject
 }
@@ -141,7 +141,7 @@ fn overlap(
     one_left: bool,
     one_right: bool,
 ) -> Neighbours
-    ensures { λ r. ⌜ meeting (pool (now (points .exit)) (now (marks .exit))) (r .used) (r .met) ≡ Spec.overlapped binary64 stored (pool (now (points .entry)) (now (marks .entry))) used a b «one_left» «one_right» ⌝ }
+    ensures { λ r. ⌜ meeting (pool (now (points .exit)) (now (marks .exit))) (r .used) (r .met) ≡ Spec.overlapped atBinary64 stored (pool (now (points .entry)) (now (marks .entry))) used a b «one_left» «one_right» ⌝ }
 {
     let ends = ends_first(points, marks, used, a, b);
     let h = pick(ends, a, b);
@@ -166,7 +166,7 @@ pub fn meet_by(
     one_left: bool,
     one_right: bool,
 ) -> Neighbours
-    ensures { λ r. ⌜ meeting (pool (now (points .exit)) (now (marks .exit))) (r .used) (r .met) ≡ Spec.meetBy binary64 stored (crossOf found) (pool (now (points .entry)) (now (marks .entry))) used a b «one_left» «one_right» ⌝ }
+    ensures { λ r. ⌜ meeting (pool (now (points .exit)) (now (marks .exit))) (r .used) (r .met) ≡ Spec.meetBy atBinary64 stored (crossOf found) (pool (now (points .entry)) (now (marks .entry))) used a b «one_left» «one_right» ⌝ }
 {
     match found {
         LineIntersection::None => ended(still(used), 0),

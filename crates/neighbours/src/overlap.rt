@@ -1,6 +1,6 @@
 // An overlap of two layers.
 ghost use mathlib.Core.Path.{_≡_};
-ghost use Rattle.events.specs.Binary64.{binary64};
+ghost use Rattle.events.specs.Binary64.{atBinary64};
 ghost use Rattle.events.specs.Event.{shown};
 ghost use Rattle.events.specs.Pool.{pool, stored};
 ghost use Rattle.events.specs.Store.{look};
@@ -28,7 +28,7 @@ pub fn left_point(points: &[[f64; 2]], marks: &[[u32; 12]], used: u32, r: u32) -
 
 // The right end's point.
 pub fn right_point(points: &[[f64; 2]], marks: &[[u32; 12]], used: u32, r: u32) -> Coordinate
-    ensures { λ x. ⌜ x ≡ rightOf binary64 stored (pool (now (points .entry)) (now (marks .entry))) used r .point ⌝ }
+    ensures { λ x. ⌜ x ≡ rightOf atBinary64 stored (pool (now (points .entry)) (now (marks .entry))) used r .point ⌝ }
 {
     let e = read_used(points, marks, used, r);
     let f = read_used(points, marks, used, e.partner);
@@ -69,7 +69,7 @@ fn type_by(first: Event, second: Event) -> EdgeType
 
 // Of two segments with one left end the second does not count, and the first tells how the layers change across both.
 fn coincide(points: &mut [[f64; 2]], marks: &mut [[u32; 12]], used: u32, a: u32, b: u32)
-    ensures { λ _. ⌜ pool (now (points .exit)) (now (marks .exit)) ≡ Spec.coincided binary64 stored (pool (now (points .entry)) (now (marks .entry))) used a b ⌝ }
+    ensures { λ _. ⌜ pool (now (points .exit)) (now (marks .exit)) ≡ Spec.coincided atBinary64 stored (pool (now (points .entry)) (now (marks .entry))) used a b ⌝ }
 {
     let first = read_used(points, marks, used, a);
     let second = read_used(points, marks, used, b);
@@ -94,7 +94,7 @@ pub fn left_shared(
     h: u32,
     k: u32,
 ) -> Step
-    ensures { λ r. ⌜ step (pool (now (points .exit)) (now (marks .exit))) (r .used) (r .stop) ≡ Spec.leftShared binary64 stored (pool (now (points .entry)) (now (marks .entry))) used a b «one_right» h k ⌝ }
+    ensures { λ r. ⌜ step (pool (now (points .exit)) (now (marks .exit))) (r .used) (r .stop) ≡ Spec.leftShared atBinary64 stored (pool (now (points .entry)) (now (marks .entry))) used a b «one_right» h k ⌝ }
 {
     let end = right_point(points, marks, used, h);
     coincide(points, marks, used, a, b);
@@ -112,7 +112,7 @@ pub fn lay(
     h: u32,
     k: u32,
 ) -> Step
-    ensures { λ r. ⌜ step (pool (now (points .exit)) (now (marks .exit))) (r .used) (r .stop) ≡ Spec.laid binary64 stored (pool (now (points .entry)) (now (marks .entry))) used «one_right» i j h k ⌝ }
+    ensures { λ r. ⌜ step (pool (now (points .exit)) (now (marks .exit))) (r .used) (r .stop) ≡ Spec.laid atBinary64 stored (pool (now (points .entry)) (now (marks .entry))) used «one_right» i j h k ⌝ }
 {
     let start = left_point(points, marks, used, j);
     if one_right {

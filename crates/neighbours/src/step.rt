@@ -1,7 +1,7 @@
 // One cut as a step of several: none follows a refusal.
 ghost use mathlib.Core.Path.{_≡_};
 ghost use Prim.Native.Nat.{_+_};
-ghost use Rattle.events.specs.Binary64.{binary64};
+ghost use Rattle.events.specs.Binary64.{atBinary64};
 ghost use Rattle.events.specs.Pool.{pool, stored};
 ghost use Rattle.neighbours.specs.Step as Spec;
 ghost use Rattle.neighbours.specs.Step.{step};
@@ -38,7 +38,7 @@ pub fn cut(
     i: u32,
     p: Coordinate,
 ) -> Step
-    ensures { λ r. ⌜ step (pool (now (points .exit)) (now (marks .exit))) (r .used) (r .stop) ≡ Spec.cut binary64 stored (pool (now (points .entry)) (now (marks .entry))) used i p ⌝ }
+    ensures { λ r. ⌜ step (pool (now (points .exit)) (now (marks .exit))) (r .used) (r .stop) ≡ Spec.cut atBinary64 stored (pool (now (points .entry)) (now (marks .entry))) used i p ⌝ }
 {
     match divide_segment(points, marks, used, i, p) {
         Division::Done(d) => Step {
@@ -61,7 +61,7 @@ pub fn cut_unless(
     i: u32,
     p: Coordinate,
 ) -> Step
-    ensures { λ r. ⌜ step (pool (now (points .exit)) (now (marks .exit))) (r .used) (r .stop) ≡ Spec.cutUnless binary64 stored «not_to_be» (pool (now (points .entry)) (now (marks .entry))) used i p ⌝ }
+    ensures { λ r. ⌜ step (pool (now (points .exit)) (now (marks .exit))) (r .used) (r .stop) ≡ Spec.cutUnless atBinary64 stored «not_to_be» (pool (now (points .entry)) (now (marks .entry))) used i p ⌝ }
 {
     if not_to_be {
         return still(used);
@@ -79,7 +79,7 @@ pub fn twice(
     j: u32,
     q: Coordinate,
 ) -> Step
-    ensures { λ r. ⌜ step (pool (now (points .exit)) (now (marks .exit))) (r .used) (r .stop) ≡ Spec.twice binary64 stored (pool (now (points .entry)) (now (marks .entry))) used i p j q ⌝ }
+    ensures { λ r. ⌜ step (pool (now (points .exit)) (now (marks .exit))) (r .used) (r .stop) ≡ Spec.twice atBinary64 stored (pool (now (points .entry)) (now (marks .entry))) used i p j q ⌝ }
 {
     let first = cut(points, marks, used, i, p);
     let stop = first.stop;
@@ -98,7 +98,7 @@ pub fn cut_on(
     p: Coordinate,
     q: Coordinate,
 ) -> Step
-    ensures { λ r. ⌜ step (pool (now (points .exit)) (now (marks .exit))) (r .used) (r .stop) ≡ Spec.twice binary64 stored (pool (now (points .entry)) (now (marks .entry))) used i p (used + 1) q ⌝ }
+    ensures { λ r. ⌜ step (pool (now (points .exit)) (now (marks .exit))) (r .used) (r .stop) ≡ Spec.twice atBinary64 stored (pool (now (points .entry)) (now (marks .entry))) used i p (used + 1) q ⌝ }
 {
     let first = cut(points, marks, used, i, p);
     let stop = first.stop;

@@ -6,7 +6,7 @@ use native.Mathlib.Omega.{arith}
 use lib.ListN.{length, getD}
 use Rattle.events.specs.declared.Link.{Link}
 use Rattle.events.specs.Store.{Store}
-use Rattle.events.specs.Binary64.{binary64}
+use Rattle.events.specs.Binary64.{atBinary64}
 use Rattle.events.specs.Pool.{Pool, size, rowAt, stored}
 use Rattle.contours.specs.Result.{ordered}
 use Rattle.contours.specs.Table.{place}
@@ -36,6 +36,6 @@ module _ (places walked order : List ℕ) (p : Pool) where
 
 -- what connection gives of the pool
 pub finished-pool : (p : Pool) (list places walked : List ℕ) (cs : List Contour) → size p ≤ length places
-    → ((r : ℕ) → r < size p → getD places r 0 ≡ place (ordered (rowAt p) binary64 list) r) → finished binary64 stored p list walked cs .pool ≡ settledBy places walked p
+    → ((r : ℕ) → r < size p → getD places r 0 ≡ place (ordered (rowAt p) atBinary64 list) r) → finished atBinary64 stored p list walked cs .pool ≡ settledBy places walked p
 unfolding finished stored
-finished-pool p list places walked cs h e = sym (by-places places walked (ordered (rowAt p) binary64 list) p h e)
+finished-pool p list places walked cs h e = sym (by-places places walked (ordered (rowAt p) atBinary64 list) p h e)

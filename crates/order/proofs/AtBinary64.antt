@@ -16,7 +16,7 @@ use Rattle.orientation.specs.Orientation.{signOf, signedArea}
 use Rattle.orientation.proofs.Differences as D
 use Rattle.orientation.proofs.Differences.{Diff, moved, times, whole-is}
 use Rattle.orientation.proofs.Signs.{positive, negative, none}
-use Rattle.events.specs.Binary64.{binary64}
+use Rattle.events.specs.Binary64.{atBinary64}
 use Rattle.events.specs.Event.{Key}
 use Rattle.order.specs.Order.{onSide}
 use Rattle.order.proofs.Steps.{signFrom, three-ways, sign-positive, sign-negative, sign-zero}
@@ -58,8 +58,8 @@ turns a b c h j k =
     (times (gap (a .x) (c .x) (h .x) (k .x)) (gap (b .y) (c .y) (j .y) (k .y)))
     (times (gap (a .y) (c .y) (h .y) (k .y)) (gap (b .x) (c .x) (j .x) (k .x)))))
 
-unfoldable pub laws : OrderLaws binary64
-unfolding binary64 grid place
+unfoldable pub laws : OrderLaws atBinary64
+unfolding atBinary64 grid place
 laws =
     record {
       Fine = Fine;
@@ -72,8 +72,8 @@ laws =
     }
 
 -- ---- valid records: refusals 2 and 4 strike neither end
-pub fine : (p : Coordinate) → binary64 .fit p ≡ true → Fine p
-unfolding binary64
+pub fine : (p : Coordinate) → atBinary64 .fit p ≡ true → Fine p
+unfolding atBinary64
 fine p e = go (unfit (p .x)) refl (unfit (p .y)) refl e
   where
     go : (u : Bool) → unfit (p .x) ≡ u → (v : Bool) → unfit (p .y) ≡ v → (not u && not v) ≡ true → Fine p
@@ -81,6 +81,6 @@ fine p e = go (unfit (p .x)) refl (unfit (p .y)) refl e
     go false i true j e = absurd (false≢true e)
     go true i v j e = absurd (false≢true e)
 
-pub valid : (k : Key Coordinate) → binary64 .fit (k .point) ≡ true → binary64 .fit (k .mate) ≡ true → onSide binary64 k ≡ true → Valid laws k
+pub valid : (k : Key Coordinate) → atBinary64 .fit (k .point) ≡ true → atBinary64 .fit (k .mate) ≡ true → onSide atBinary64 k ≡ true → Valid laws k
 unfolding laws
 valid k e f s = record { placed = record { point = fine (k .point) e; mate = fine (k .mate) f }; side = s }

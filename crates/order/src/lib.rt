@@ -1,7 +1,7 @@
 // Event order (`sweep_event.rs`).
 ghost use mathlib.Core.Path.{_≡_};
 ghost use Rattle.orientation.specs.Orientation.{signedArea};
-ghost use Rattle.events.specs.Binary64.{binary64};
+ghost use Rattle.events.specs.Binary64.{atBinary64};
 ghost use Rattle.events.specs.Event.{shown, key};
 ghost use Rattle.events.specs.Pool.{pool, stored};
 ghost use Rattle.order.specs.Order as Order;
@@ -36,7 +36,7 @@ fn before_by_direction(a: Key, b: Key) -> bool
 
 // Whether a comes before b; both ways for a tie.
 pub fn before(a: Key, b: Key) -> bool
-    ensures { λ r. ⌜ r ≡ Order.before binary64 (shownKey a) (shownKey b) ⌝ }
+    ensures { λ r. ⌜ r ≡ Order.before atBinary64 (shownKey a) (shownKey b) ⌝ }
 {
     if a.point.x < b.point.x {
         return true;
@@ -90,7 +90,7 @@ pub fn key_used(points: &[[f64; 2]], marks: &[[u32; 12]], used: u32, i: u32) -> 
 
 // Whether record a of a pool comes before record b.
 pub fn before_at(points: &[[f64; 2]], marks: &[[u32; 12]], a: u32, b: u32) -> bool
-    ensures { λ r. ⌜ r ≡ Order.before binary64 (keyAt (pool (now (points .entry)) (now (marks .entry))) a) (keyAt (pool (now (points .entry)) (now (marks .entry))) b) ⌝ }
+    ensures { λ r. ⌜ r ≡ Order.before atBinary64 (keyAt (pool (now (points .entry)) (now (marks .entry))) a) (keyAt (pool (now (points .entry)) (now (marks .entry))) b) ⌝ }
 {
     before(key_at(points, marks, a), key_at(points, marks, b))
 }

@@ -8,7 +8,7 @@ use Rattle.refusals.specs.declared.Refusal.{Refusal}
 use Rattle.numbers.specs.declared.Coordinate.{Coordinate}
 use Rattle.events.specs.Coordinates.{Coordinates, same}
 use Rattle.events.specs.Event.{Event}
-use Rattle.events.specs.Binary64.{binary64}
+use Rattle.events.specs.Binary64.{atBinary64}
 use Rattle.events.specs.Pool.{Pool, size, rowAt, stored}
 use Rattle.order.specs.Order.{before}
 use Rattle.checks.specs.declared.Check.{Check}
@@ -80,37 +80,37 @@ module _ (ρ : ℕ → ℕ) (p p′ : Pool) (rn : RenumberedPool ρ p p′) (lis
   unfolding afterConnection connectedTo after told
   refused-alike x y e = same-number e
 
-  module _ (ok : Accepted binary64 (rowAt p) (size p) list) where
-    tables : table (rowAt p′) binary64 (map ρ list) ≡ table (rowAt p) binary64 list
-    tables = table-kept binary64 ρ (size p) (rowAt p) (rowAt p′) (rn .records) list (stored .blank 0 .point) ok
+  module _ (ok : Accepted atBinary64 (rowAt p) (size p) list) where
+    tables : table (rowAt p′) atBinary64 (map ρ list) ≡ table (rowAt p) atBinary64 list
+    tables = table-kept atBinary64 ρ (size p) (rowAt p) (rowAt p′) (rn .records) list (stored .blank 0 .point) ok
 
-    traces : traced binary64 stored p′ (map ρ list) ≡ traced binary64 stored p list
+    traces : traced atBinary64 stored p′ (map ρ list) ≡ traced atBinary64 stored p list
     unfolding traced stored
-    traces = ap (λ (t : List (Row Coordinate)). trace (same binary64) (length t) (T.rowAt (stored .blank 0 .point) t)) tables
+    traces = ap (λ (t : List (Row Coordinate)). trace (same atBinary64) (length t) (T.rowAt (stored .blank 0 .point) t)) tables
 
-    same-outlines : (ms : List ℕ) (cs : List Contour) → finished binary64 stored p′ (map ρ list) ms cs .outlines ≡ finished binary64 stored p list ms cs .outlines
+    same-outlines : (ms : List ℕ) (cs : List Contour) → finished atBinary64 stored p′ (map ρ list) ms cs .outlines ≡ finished atBinary64 stored p list ms cs .outlines
     unfolding finished stored
-    same-outlines ms cs = ap (λ (t : List (Row Coordinate)). outlines (same binary64) (length t) (T.rowAt (stored .blank 0 .point) t) cs) tables
+    same-outlines ms cs = ap (λ (t : List (Row Coordinate)). outlines (same atBinary64) (length t) (T.rowAt (stored .blank 0 .point) t) cs) tables
 
-    alike-of : (t : Answer) → SameWork (afterConnection (after (outcomeOf binary64 stored p list t) p l)) (afterConnection (after (outcomeOf binary64 stored p′ (map ρ list) t) p′ l))
+    alike-of : (t : Answer) → SameWork (afterConnection (after (outcomeOf atBinary64 stored p list t) p l)) (afterConnection (after (outcomeOf atBinary64 stored p′ (map ρ list) t) p′ l))
     unfolding outcomeOf
-    alike-of (done ms cs) = text-alike (finished binary64 stored p list ms cs) (finished binary64 stored p′ (map ρ list) ms cs) (same-outlines ms cs)
+    alike-of (done ms cs) = text-alike (finished atBinary64 stored p list ms cs) (finished atBinary64 stored p′ (map ρ list) ms cs) (same-outlines ms cs)
     alike-of (halted number i ms cs) = stopped-alike _ _ _ _ refl
 
   one-size : size p′ ≡ size p
   unfolding size
   one-size = rw (rn .points, rn .marks)
 
-  checks-alike : (a a′ : Check) → accept binary64 (rowAt p) (size p) (length (p .points)) (length (p .marks)) list (roomOf l) ≡ a → SameNumber a a′
-      → SameWork (afterConnection (after (afterChecks binary64 stored p list a) p l)) (afterConnection (after (afterChecks binary64 stored p′ (map ρ list) a′) p′ l))
+  checks-alike : (a a′ : Check) → accept atBinary64 (rowAt p) (size p) (length (p .points)) (length (p .marks)) list (roomOf l) ≡ a → SameNumber a a′
+      → SameWork (afterConnection (after (afterChecks atBinary64 stored p list a) p l)) (afterConnection (after (afterChecks atBinary64 stored p′ (map ρ list) a′) p′ l))
   unfolding afterChecks
   checks-alike a a′ e both-pass =
-      let ok = accepted binary64 (rowAt p) (size p) list (length (p .points)) (length (p .marks)) (roomOf l) e .0 in
-      rw (traces ok) (alike-of ok (traced binary64 stored p list))
+      let ok = accepted atBinary64 (rowAt p) (size p) list (length (p .points)) (length (p .marks)) (roomOf l) e .0 in
+      rw (traces ok) (alike-of ok (traced atBinary64 stored p list))
   checks-alike a a′ e (both-refuse q) = refused-alike _ _ q
 
   pub connected-alike : SameWork (afterConnection (connectEdges p list l)) (afterConnection (connectEdges p′ (map ρ list) l))
   unfolding connectEdges connectPool connect stored
   connected-alike =
       checks-alike _ _ refl
-      (rw (rn .points, rn .marks, one-size) (accept-same binary64 ρ (size p) (rowAt p) (rowAt p′) (rn .records) list (map ρ list) (same-order (map ρ list)) (length (p .points)) (length (p .marks)) (roomOf l)))
+      (rw (rn .points, rn .marks, one-size) (accept-same atBinary64 ρ (size p) (rowAt p) (rowAt p′) (rn .records) list (map ρ list) (same-order (map ρ list)) (length (p .points)) (length (p .marks)) (roomOf l)))

@@ -10,7 +10,7 @@ use lib.Seq.{length-sets}
 use Rattle.lists.proofs.Fronts.{first-are}
 use Rattle.refusals.specs.declared.Refusal.{Refusal}
 use Rattle.crossing.specs.Modes.{ordered}
-use Rattle.events.specs.Binary64.{binary64, inMode}
+use Rattle.events.specs.Binary64.{atBinary64, inMode}
 use Rattle.events.specs.Pool.{Pool, pool, size, stored}
 use Rattle.events.proofs.Stored.{pool-stored}
 use Rattle.class.specs.declared.Operation.{Operation}
@@ -45,7 +45,7 @@ module _ (op : Operation) (p : Pool) (n : ℕ) (taken : List ℕ) where
 
   size-kept : (x : Check) → accept p n taken ≡ x → stored .size (swept .pool) ≡ stored .size p
   unfolding subdividePool afterChecks afterRun asLent
-  size-kept Passed h = rw h (counted binary64 stored pool-stored (inMode ordered) op p n .grows .size)
+  size-kept Passed h = rw h (counted atBinary64 stored pool-stored (inMode ordered) op p n .grows .size)
   size-kept (Struck r) h = rw h
 
   fits : swept .answer .outcome ≡ Sweeping.Done → swept .answer .used ≤ stored .size (swept .pool)

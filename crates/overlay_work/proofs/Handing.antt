@@ -12,7 +12,7 @@ use lib.ListN.{length, take, length-take}
 use lib.Seq.{sets}
 use Rattle.refusals.specs.declared.Refusal.{Refusal}
 use Rattle.crossing.specs.Modes as Modes
-use Rattle.events.specs.Binary64.{binary64, inMode}
+use Rattle.events.specs.Binary64.{atBinary64, inMode}
 use Rattle.events.specs.Pool.{Pool, pool, size, stored}
 use Rattle.events.proofs.Stored.{pool-stored}
 use Rattle.class.specs.declared.Operation.{Operation}
@@ -102,7 +102,7 @@ module _ (op : Operation) (p : Pool) (n : ℕ) (lent : List ℕ) where
   abbrev swept : Sweeps.After
   swept = subdividePool op Modes.ordered p n lent
 
-  counted : accept p n lent ≡ Passed → swept .answer .taken ≡ length (subdivide binary64 stored (inMode Modes.ordered) op p n .taken)
+  counted : accept p n lent ≡ Passed → swept .answer .taken ≡ length (subdivide atBinary64 stored (inMode Modes.ordered) op p n .taken)
   unfolding subdividePool afterChecks afterRun answerOf
   counted h = rw h
 
@@ -121,7 +121,7 @@ module _ (op : Operation) (p : Pool) (n : ℕ) (lent : List ℕ) where
       omega (arith, a, b, counted-within (accept p n lent) refl)
 
   -- the places in use are within the pool, where the sweep was not refused
-  used-is : accept p n lent ≡ Passed → swept .answer .used ≡ subdivide binary64 stored (inMode Modes.ordered) op p n .used
+  used-is : accept p n lent ≡ Passed → swept .answer .used ≡ subdivide atBinary64 stored (inMode Modes.ordered) op p n .used
   unfolding subdividePool afterChecks afterRun answerOf
   used-is h = rw h
 
@@ -133,7 +133,7 @@ module _ (op : Operation) (p : Pool) (n : ℕ) (lent : List ℕ) where
   not-both o r d e = let z : _≡_ {A = ℕ} 0 1 = cc in omega arith
 
   used-fit : (x : Check) → accept p n lent ≡ x → swept .answer .outcome ≡ Sweeping.Done → swept .answer .used ≤ stored .size p
-  used-fit Passed h d = omega (arith, used-is h, used-within binary64 stored pool-stored (inMode Modes.ordered) op p n (loaded-within p n lent h))
+  used-fit Passed h d = omega (arith, used-is h, used-within atBinary64 stored pool-stored (inMode Modes.ordered) op p n (loaded-within p n lent h))
   used-fit (Struck r) h d = absurd (not-both _ r d (refused-is r h))
 
   module _ (s : Swept) (q : Pool) (taken : List ℕ) (e : Sweeps.after s q taken ≡ swept) (d : s .outcome ≡ Sweeping.Done) where

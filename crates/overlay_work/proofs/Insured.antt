@@ -13,7 +13,7 @@ use Rattle.lists.proofs.Fronts.{first-are}
 use Rattle.refusals.specs.declared.Refusal.{Refusal}
 use Rattle.numbers.specs.declared.Coordinate.{Coordinate}
 use Rattle.crossing.specs.Modes.{ordered}
-use Rattle.events.specs.Binary64.{binary64}
+use Rattle.events.specs.Binary64.{atBinary64}
 use Rattle.class.specs.declared.Operation.{Operation}
 use Rattle.class.specs.declared.Operation.the-variants.{Intersection, Difference, Union, Xor}
 use Rattle.loading.specs.declared.Loaded.{Loaded}
@@ -44,7 +44,7 @@ no-text r t e = let z : _≡_ {A = ℕ} 0 1 = cc in omega arith
 
 -- ---- the sweep
 
-never-past : (o : Operation) → NeverEarly o → (a b : Option Coordinate) (q : Coordinate) → isPast binary64 o a b q ≡ false
+never-past : (o : Operation) → NeverEarly o → (a b : Option Coordinate) (q : Coordinate) → isPast atBinary64 o a b q ≡ false
 unfolding isPast NeverEarly
 never-past Intersection h a b q = absurd h
 never-past Difference h a b q = absurd h

@@ -15,7 +15,7 @@ use lib.Seq.{sets, length-sets}
 use Rattle.refusals.specs.declared.Refusal.{Refusal}
 use Rattle.numbers.specs.declared.Coordinate.{Coordinate}
 use Rattle.crossing.specs.Modes as Modes
-use Rattle.events.specs.Binary64.{binary64, inMode}
+use Rattle.events.specs.Binary64.{atBinary64, inMode}
 use Rattle.events.specs.Pool.{Pool, stored}
 use Rattle.class.specs.declared.Operation.{Operation}
 use Rattle.checks.specs.declared.Check.{Check}
@@ -91,7 +91,7 @@ unfolding subdividePool afterChecks afterRun asLent
 taken-places o p n l = go (accept p n l)
   where
     go : (x : Check) → length (afterChecks x o Modes.ordered p n l .taken) ≡ length l
-    go Passed = length-sets l 0 (subdivide binary64 stored (inMode Modes.ordered) o p n .taken)
+    go Passed = length-sets l 0 (subdivide atBinary64 stored (inMode Modes.ordered) o p n .taken)
     go (Struck r) = refl
 
 fair-swept : (o : Operation) (p : Pool) (n : ℕ) → Fair (afterSweep (subdividePool o Modes.ordered p n (noneTaken poolPlaces)))

@@ -8,7 +8,7 @@ use native.Mathlib.Omega.{arith}
 use lib.Dec.{ltb}
 use lib.ListN.{length}
 use Rattle.numbers.specs.declared.Coordinate.{Coordinate}
-use Rattle.events.specs.Binary64.{binary64}
+use Rattle.events.specs.Binary64.{atBinary64}
 use Rattle.events.specs.Pool.{Pool, stored}
 use Rattle.checks.specs.declared.Check.{Check}
 use Rattle.checks.specs.declared.Check.the-variants.{Passed, Refused as Struck}
@@ -62,7 +62,7 @@ then-same (Struck r) b b′ k n m = refl
 
 module _ (p : Pool) (list : List ℕ) where
   abbrev checked : Room → Check
-  checked room = accept binary64 (records binary64 stored p) (stored .size p) (length (p .points)) (length (p .marks)) list room
+  checked room = accept atBinary64 (records atBinary64 stored p) (stored .size p) (length (p .points)) (length (p .marks)) list room
 
   not-five : (room : Room) → Roomy list room → CheckBy (checked room)
   unfolding connectPool connect afterChecks
@@ -70,7 +70,7 @@ module _ (p : Pool) (list : List ℕ) where
     where
       go : (x : Check) → checked room ≡ x → CheckBy x
       go Passed e = tt
-      go (Struck r) e = always-room p list room h r (ap (afterChecks binary64 stored p list) e)
+      go (Struck r) e = always-room p list room h r (ap (afterChecks atBinary64 stored p list) e)
 
   same-check : (room room′ : Room) → CheckBy (checked room) → CheckBy (checked room′) → checked room ≡ checked room′
   unfolding accept
@@ -79,7 +79,7 @@ module _ (p : Pool) (list : List ℕ) where
 
   same-connection : (room room′ : Room) → Roomy list room → Roomy list room′ → connectPool p list room ≡ connectPool p list room′
   unfolding connectPool connect
-  same-connection room room′ h h′ = ap (afterChecks binary64 stored p list) (same-check room room′ (not-five room h) (not-five room′ h′))
+  same-connection room room′ h h′ = ap (afterChecks atBinary64 stored p list) (same-check room room′ (not-five room h) (not-five room′ h′))
 
   -- ---- the text
 

@@ -11,7 +11,7 @@ use lib.ListN.{length}
 use Rattle.refusals.specs.declared.Refusal.{Refusal}
 use Rattle.numbers.specs.declared.Coordinate.{Coordinate}
 use Rattle.events.specs.Coordinates.{same}
-use Rattle.events.specs.Binary64.{binary64}
+use Rattle.events.specs.Binary64.{atBinary64}
 use Rattle.events.specs.Pool.{Pool}
 use Rattle.class.specs.declared.Operation.{Operation}
 use Rattle.checks.specs.declared.Check.{Check}
@@ -91,15 +91,15 @@ unfolding andThen
 both-by Passed b h k = k
 both-by (Struck r) b h k = h
 
-edge-by : (i : ℕ) (e : Edge Coordinate) → CheckBy (checkedEdge binary64 i e)
+edge-by : (i : ℕ) (e : Edge Coordinate) → CheckBy (checkedEdge atBinary64 i e)
 unfolding checkedEdge
 edge-by i e =
-    struck-by (not (binary64 .fit (e .from)) || not (binary64 .fit (e .to))) _ _ (omega arith) (struck-by (same binary64 (e .from) (e .to)) _ Passed (omega arith) tt)
+    struck-by (not (atBinary64 .fit (e .from)) || not (atBinary64 .fit (e .to))) _ _ (omega arith) (struck-by (same atBinary64 (e .from) (e .to)) _ Passed (omega arith) tt)
 
-edges-by : (i : ℕ) (l : List (Edge Coordinate)) → CheckBy (checkedEdges binary64 i l)
+edges-by : (i : ℕ) (l : List (Edge Coordinate)) → CheckBy (checkedEdges atBinary64 i l)
 unfolding checkedEdges
 edges-by i [] = tt
-edges-by i (e ∷ l) = both-by (checkedEdge binary64 i e) _ (edge-by i e) (edges-by (suc i) l)
+edges-by i (e ∷ l) = both-by (checkedEdge atBinary64 i e) _ (edge-by i e) (edges-by (suc i) l)
 
 accept-by : (ends : List (List Float)) (labels : List (List ℕ)) (p : Pool) → CheckBy (Loads.accept ends labels p)
 unfolding Loads.accept edgesSized poolSized

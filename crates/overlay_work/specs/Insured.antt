@@ -6,7 +6,7 @@ use Prim.Native.Nat.{ℕ, _<_}
 use lib.ListN.{take}
 use Rattle.numbers.specs.declared.Coordinate.{Coordinate}
 use Rattle.crossing.specs.Modes.{ordered}
-use Rattle.events.specs.Binary64.{binary64}
+use Rattle.events.specs.Binary64.{atBinary64}
 use Rattle.events.specs.Pool.{Pool, rowAt}
 use Rattle.class.specs.declared.Operation.{Operation}
 use Rattle.class.specs.declared.Operation.the-variants.{Intersection, Difference, Union, Xor}
@@ -70,8 +70,8 @@ pub record Insured (bytes text : List ℕ) : Type 0 where
   -- the text shows these contours
   pub shows : text ≡ printed outlines
   -- each two neighbouring corners are the two ends of a wall, and each wall is at one place of one contour
-  pub walls : OneToOne binary64 (rowAt (sweptPool run)) (eventsTaken run) (toldOf outlines .corners)
+  pub walls : OneToOne atBinary64 (rowAt (sweptPool run)) (eventsTaken run) (toldOf outlines .corners)
   -- if every point ends an even number of walls, every contour closes
-  pub closing : EvenEnds binary64 (rowAt (sweptPool run)) (eventsTaken run) → AllClose outlines
+  pub closing : EvenEnds atBinary64 (rowAt (sweptPool run)) (eventsTaken run) → AllClose outlines
   -- unless the sweep may end early, every place in use was taken
   pub whole : NeverEarly (run .sheet .operation) → (r : ℕ) → r < swept run .answer .used → List·Memᴰ r (eventsTaken run)

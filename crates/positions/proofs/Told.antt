@@ -8,7 +8,7 @@ use native.Mathlib.Omega.{arith}
 use borrow.Author.Tests.{ltb-true, ltb-false, ne-eqb, le-ltb}
 use lib.Dec.{eqb, ltb}
 use lib.ListN.{length, getD}
-use Rattle.events.specs.Binary64.{binary64}
+use Rattle.events.specs.Binary64.{atBinary64}
 use Rattle.numbers.specs.declared.Coordinate.{Coordinate}
 use Rattle.events.specs.Event.{Event, hasTransition}
 use Rattle.events.specs.Pool.{Pool, rowAt, blank}
@@ -64,7 +64,7 @@ blank-out p r h = rw (row-out p r h) (ap (λ (e : Event Coordinate). hasTransiti
 all-in : (p : Pool) (l : List ℕ) → All (λ (x : ℕ). inResult (rowAt p) x ≡ true) (orderedIn p l)
 unfolding orderedIn ordered results
 all-in p l =
-    all-perm (λ (x : ℕ). inResult (rowAt p) x ≡ true) (sort-is (earlier (rowAt p) binary64) (results (rowAt p) l))
+    all-perm (λ (x : ℕ). inResult (rowAt p) x ≡ true) (sort-is (earlier (rowAt p) atBinary64) (results (rowAt p) l))
     (all-of (λ (x : ℕ). inResult (rowAt p) x ≡ true) (results (rowAt p) l) (λ x m. keep-out (inResult (rowAt p)) l x m .1))
 
 place-out : (p : Pool) (l : List ℕ) (r : ℕ) → length (p .points) ≤ r → place (orderedIn p l) r ≡ length (orderedIn p l)

@@ -7,7 +7,7 @@ use native.Mathlib.Omega.{arith}
 use Rattle.refusals.specs.declared.Refusal.{Refusal}
 use Rattle.numbers.specs.declared.Coordinate.{Coordinate}
 use Rattle.events.specs.Event.{Event}
-use Rattle.events.specs.Binary64.{binary64}
+use Rattle.events.specs.Binary64.{atBinary64}
 use Rattle.events.specs.Store.{look}
 use Rattle.events.specs.Pool.{Pool, size, stored}
 use Rattle.checks.specs.declared.Check.{Check}
@@ -34,7 +34,7 @@ not-done : (a : Division) (d : Divided) (x : Refusal) → a ≡ Done d → a ≡
 not-done a d x p q = let z : _≡_ {A = ℕ} 0 1 = cc in omega arith
 
 -- a record and its partner that pass are a segment, once one of them is left
-segment : (row : ℕ → Event Coordinate) (n i : ℕ) → row i .left ≡ true → Pair binary64 row n i → Segment binary64 row n i
+segment : (row : ℕ → Event Coordinate) (n i : ℕ) → row i .left ≡ true → Pair atBinary64 row n i → Segment atBinary64 row n i
 segment row n i left both =
     let own = both .own in
     record {
@@ -46,36 +46,36 @@ segment row n i left both =
 
 module _ (p : Pool) (used i : ℕ) where
   -- what passing gives, of the records that division reads
-  pub sound : checkedIn p used (i ∷ []) ≡ Passed → Pair binary64 (look stored p used) used i
+  pub sound : checkedIn p used (i ∷ []) ≡ Passed → Pair atBinary64 (look stored p used) used i
   unfolding checkedIn
   sound = by (overused p used) refl
     where
-      by : (t : Bool) → overused p used ≡ t → cond t (Refused sizeRefusal) (checkedNamed (inUse p used) (i ∷ [])) ≡ Passed → Pair binary64 (look stored p used) used i
+      by : (t : Bool) → overused p used ≡ t → cond t (Refused sizeRefusal) (checkedNamed (inUse p used) (i ∷ [])) ≡ Passed → Pair atBinary64 (look stored p used) used i
       by true o e = absurd (not-both _ _ e refl)
       by false o e =
           let w = within p used false (sym o) refl in
           let both = clear-named (inUse p used) (i ∷ []) e .both 0 (omega arith) in
-          subst (λ (n : ℕ). Pair binary64 (look stored p used) n i) (size-in-use p used w) (subst (λ (row : ℕ → Event Coordinate). Pair binary64 row (size (inUse p used)) i) (seen p used w) both)
+          subst (λ (n : ℕ). Pair atBinary64 (look stored p used) n i) (size-in-use p used w) (subst (λ (row : ℕ → Event Coordinate). Pair atBinary64 row (size (inUse p used)) i) (seen p used w) both)
 
 module _ (p : Pool) (used i : ℕ) (cut : Coordinate) where
   abbrev row : ℕ → Event Coordinate
   row = look stored p used
 
   abbrev after : After Pool
-  after = divide binary64 stored p used i cut
+  after = divide atBinary64 stored p used i cut
 
   -- done: four records are new or changed, all others as before, partners mutual again, each end on its proper side
   pub done-whole : (d : Divided) → divideSegment p used i cut .answer ≡ Done d
-      → Whole binary64 row (look stored (divideSegment p used i cut .after) (used + 2)) used i (moved binary64 (row i .point) cut) (moves binary64 (row i .point) cut) d
+      → Whole atBinary64 row (look stored (divideSegment p used i cut .after) (used + 2)) used i (moved atBinary64 (row i .point) cut) (moves atBinary64 (row i .point) cut) d
   unfolding divideSegment
   done-whole d = by (checkedIn p used (i ∷ [])) refl
     where
       by : (c : Check) → checkedIn p used (i ∷ []) ≡ c → dividedBy c p after .answer ≡ Done d
-          → Whole binary64 row (look stored (dividedBy c p after .after) (used + 2)) used i (moved binary64 (row i .point) cut) (moves binary64 (row i .point) cut) d
+          → Whole atBinary64 row (look stored (dividedBy c p after .after) (used + 2)) used i (moved atBinary64 (row i .point) cut) (moves atBinary64 (row i .point) cut) d
       by (Refused x) e h = absurd (not-done _ d x h refl)
       by Passed e h =
-          let w = segment row used i (passed binary64 stored p used i cut d h .left) (sound p used i e) in
-          subst (λ (n : ℕ). Whole binary64 row (look stored (after .store) n) used i (moved binary64 (row i .point) cut) (moves binary64 (row i .point) cut) d) (used-after binary64 stored p used i cut d h) (whole-pool p used i cut d h w)
+          let w = segment row used i (passed atBinary64 stored p used i cut d h .left) (sound p used i e) in
+          subst (λ (n : ℕ). Whole atBinary64 row (look stored (after .store) n) used i (moved atBinary64 (row i .point) cut) (moves atBinary64 (row i .point) cut) d) (used-after atBinary64 stored p used i cut d h) (whole-pool p used i cut d h w)
 
   -- .. and in the lent numbers: of the two ends partner and flag alone, of all other records nothing
   pub done-untouched : (d : Divided) → divideSegment p used i cut .answer ≡ Done d → Untouched p (divideSegment p used i cut .after) used i (row i .partner) (d .swapped)
@@ -84,7 +84,7 @@ module _ (p : Pool) (used i : ℕ) (cut : Coordinate) where
     where
       by : (c : Check) → checkedIn p used (i ∷ []) ≡ c → dividedBy c p after .answer ≡ Done d → Untouched p (dividedBy c p after .after) used i (row i .partner) (d .swapped)
       by (Refused x) e h = absurd (not-done _ d x h refl)
-      by Passed e h = untouched p used i cut d h (segment row used i (passed binary64 stored p used i cut d h .left) (sound p used i e))
+      by Passed e h = untouched p used i cut d h (segment row used i (passed atBinary64 stored p used i cut d h .left) (sound p used i e))
 
   -- refused, by whatever number: all as lent
   pub refused-as-lent : (x : Refusal) → divideSegment p used i cut .answer ≡ NotDivided x → divideSegment p used i cut .after ≡ p
@@ -93,4 +93,4 @@ module _ (p : Pool) (used i : ℕ) (cut : Coordinate) where
     where
       by : (c : Check) → dividedBy c p after .answer ≡ NotDivided x → dividedBy c p after .after ≡ p
       by (Refused y) h = refl
-      by Passed h = as-lent binary64 stored p used i cut x h .store
+      by Passed h = as-lent atBinary64 stored p used i cut x h .store

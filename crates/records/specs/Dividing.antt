@@ -3,7 +3,7 @@
 use mathlib.Core.List.{[], _∷_}
 use Prim.Native.Nat.{ℕ}
 use Rattle.numbers.specs.declared.Coordinate.{Coordinate}
-use Rattle.events.specs.Binary64.{binary64, inMode}
+use Rattle.events.specs.Binary64.{atBinary64, inMode}
 use Rattle.events.specs.Pool.{Pool, stored}
 use Rattle.checks.specs.declared.Check.{Check}
 use Rattle.checks.specs.declared.Check.the-variants.{Passed, Refused}
@@ -22,7 +22,7 @@ dividedBy (Refused x) lent done = outcome (NotDivided x) lent
 dividedBy Passed lent done = outcome (done .answer) (done .store)
 
 unfoldable pub divideSegment : Pool → ℕ → ℕ → Coordinate → Outcome Division
-divideSegment p used i cut = dividedBy (checkedIn p used (i ∷ [])) p (divide binary64 stored p used i cut)
+divideSegment p used i cut = dividedBy (checkedIn p used (i ∷ [])) p (divide atBinary64 stored p used i cut)
 
 -- ---- two left records, in a mode of crossing
 
@@ -31,4 +31,4 @@ metBy (Refused x) lent used done = meeting lent used (NotMet x)
 metBy Passed lent used done = done
 
 unfoldable pub possibleIntersection : (mode : ℕ) → Pool → ℕ → ℕ → ℕ → Meeting Pool
-possibleIntersection mode p used a b = metBy (checkedLeftIn p used (a ∷ b ∷ [])) p used (meet binary64 stored (inMode mode) p used a b)
+possibleIntersection mode p used a b = metBy (checkedLeftIn p used (a ∷ b ∷ [])) p used (meet atBinary64 stored (inMode mode) p used a b)

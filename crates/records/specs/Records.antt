@@ -5,7 +5,7 @@ use mathlib.Core.List.{List, [], _∷_}
 use Prim.Native.Nat.{ℕ}
 use Rattle.events.specs.declared.Link.{Link}
 use Rattle.events.specs.declared.Link.the-variants.{None, To}
-use Rattle.events.specs.Binary64.{binary64}
+use Rattle.events.specs.Binary64.{atBinary64}
 use Rattle.events.specs.Pool.{Pool}
 use Rattle.order.specs.Order.{before}
 use Rattle.order.specs.Keys.{keyAt}
@@ -30,7 +30,7 @@ beforeBy (Refused x) told = BeforeRefused x
 beforeBy Passed told = BeforeTold told
 
 unfoldable pub isBefore : Pool → ℕ → ℕ → Before
-isBefore p a b = beforeBy (checkedNamed p (a ∷ b ∷ [])) (before binary64 (keyAt p a) (keyAt p b))
+isBefore p a b = beforeBy (checkedNamed p (a ∷ b ∷ [])) (before atBinary64 (keyAt p a) (keyAt p b))
 
 -- ---- segment order of two left records, in a mode of crossing
 

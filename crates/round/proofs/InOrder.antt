@@ -11,7 +11,7 @@ use lib.Dec.{ltb}
 use lib.Ieee.{Float}
 use Rattle.numbers.specs.declared.Coordinate.{Coordinate}
 use Rattle.events.specs.Coordinates.{same, ahead}
-use Rattle.events.specs.Binary64.{binary64}
+use Rattle.events.specs.Binary64.{atBinary64}
 use Rattle.order.proofs.AtBinary64.{Fine, fine, laws}
 use Rattle.order.proofs.Laws.{ahead-apart, ahead-ext, ahead-trans}
 use Rattle.checks.specs.Numbers.{numbersFrom}
@@ -91,23 +91,23 @@ module _ (f : ℕ → Bool) where
 -- ---- points, none of which is ahead of another
 
 -- neither is ahead of the other
-one-point : (p q : Coordinate) → Fine p → Fine q → ahead binary64 p q ≡ false → ahead binary64 q p ≡ false → same binary64 p q ≡ true
+one-point : (p q : Coordinate) → Fine p → Fine q → ahead atBinary64 p q ≡ false → ahead atBinary64 q p ≡ false → same atBinary64 p q ≡ true
 unfolding laws
-one-point p q h k a b = go (same binary64 p q) refl
+one-point p q h k a b = go (same atBinary64 p q) refl
   where
-    go : (s : Bool) → same binary64 p q ≡ s → s ≡ true
+    go : (s : Bool) → same atBinary64 p q ≡ s → s ≡ true
     go true e = refl
     go false e = sym a ∙ ahead-apart laws p q h k e ∙ rw b
 
-not-ahead-trans : (p q r : Coordinate) → Fine p → Fine q → Fine r → ahead binary64 r q ≡ false → ahead binary64 q p ≡ false → ahead binary64 r p ≡ false
+not-ahead-trans : (p q r : Coordinate) → Fine p → Fine q → Fine r → ahead atBinary64 r q ≡ false → ahead atBinary64 q p ≡ false → ahead atBinary64 r p ≡ false
 unfolding laws
-not-ahead-trans p q r h j k a b = go (same binary64 q p) refl (ahead binary64 r p) refl
+not-ahead-trans p q r h j k a b = go (same atBinary64 q p) refl (ahead atBinary64 r p) refl
   where
-    go : (s : Bool) → same binary64 q p ≡ s → (c : Bool) → ahead binary64 r p ≡ c → c ≡ false
+    go : (s : Bool) → same atBinary64 q p ≡ s → (c : Bool) → ahead atBinary64 r p ≡ c → c ≡ false
     go s e false f = refl
     go true e true f = sym f ∙ sym (ahead-ext laws q p r j h k e .0) ∙ a
     go false e true f =
-        let g : ahead binary64 p q ≡ true = not-false (ahead binary64 p q) (sym (ahead-apart laws q p j h e) ∙ b) in
+        let g : ahead atBinary64 p q ≡ true = not-false (ahead atBinary64 p q) (sym (ahead-apart laws q p j h e) ∙ b) in
         sym (ahead-trans laws r p q k h j f g) ∙ a
 
 -- ---- points in order
@@ -126,18 +126,18 @@ module _ (at : List (List Float)) where
       go true e v (no l) r = let n : j ≡ i = omega arith in rw n e
       go false e v d r = absurd (false≢true v)
 
-  fit-of : (j : ℕ) → stands at j ≡ true → binary64 .fit (pointIn at j) ≡ true
+  fit-of : (j : ℕ) → stands at j ≡ true → atBinary64 .fit (pointIn at j) ≡ true
   unfolding stands
   fit-of zero h = h
-  fit-of (suc j) h = go (binary64 .fit (pointIn at (suc j))) (ahead binary64 (pointIn at (suc j)) (pointIn at j)) h
+  fit-of (suc j) h = go (atBinary64 .fit (pointIn at (suc j))) (ahead atBinary64 (pointIn at (suc j)) (pointIn at j)) h
     where
       go : (a b : Bool) → (a && not b) ≡ true → a ≡ true
       go true b v = refl
       go false b v = v
 
-  next-of : (j : ℕ) → stands at (suc j) ≡ true → ahead binary64 (pointIn at (suc j)) (pointIn at j) ≡ false
+  next-of : (j : ℕ) → stands at (suc j) ≡ true → ahead atBinary64 (pointIn at (suc j)) (pointIn at j) ≡ false
   unfolding stands
-  next-of j h = go (binary64 .fit (pointIn at (suc j))) (ahead binary64 (pointIn at (suc j)) (pointIn at j)) h
+  next-of j h = go (atBinary64 .fit (pointIn at (suc j))) (ahead atBinary64 (pointIn at (suc j)) (pointIn at j)) h
     where
       go : (a b : Bool) → (a && not b) ≡ true → b ≡ false
       go true true v = sym v
@@ -152,36 +152,36 @@ module _ (at : List (List Float)) where
     fine-at j h = fine (pointIn at j) (fit-of j (stand j h))
 
     -- no later point is ahead of an earlier one
-    later : (j k : ℕ) → j < k → k < n → ahead binary64 (pointIn at k) (pointIn at j) ≡ false
+    later : (j k : ℕ) → j < k → k < n → ahead atBinary64 (pointIn at k) (pointIn at j) ≡ false
     later j zero h l = absurd (omega arith)
     later j (suc k) h l = go (decLt j k) (later j k)
       where
-        go : Dec (j < k) → (j < k → k < n → ahead binary64 (pointIn at k) (pointIn at j) ≡ false) → ahead binary64 (pointIn at (suc k)) (pointIn at j) ≡ false
+        go : Dec (j < k) → (j < k → k < n → ahead atBinary64 (pointIn at k) (pointIn at j) ≡ false) → ahead atBinary64 (pointIn at (suc k)) (pointIn at j) ≡ false
         go (yes m) r =
             not-ahead-trans (pointIn at j) (pointIn at k) (pointIn at (suc k)) (fine-at j (omega arith)) (fine-at k (omega arith)) (fine-at (suc k) l)
             (next-of k (stand (suc k) l)) (r m (omega arith))
         go (no m) r = let e : j ≡ k = omega arith in rw e (next-of k (stand (suc k) l))
 
-    module _ (q j m : ℕ) (Q : q < n) (J : j < n) (M : m < n) (s : same binary64 (pointIn at q) (pointIn at j) ≡ true) where
-      alike : (ahead binary64 (pointIn at m) (pointIn at q) ≡ ahead binary64 (pointIn at m) (pointIn at j)) × (ahead binary64 (pointIn at q) (pointIn at m) ≡ ahead binary64 (pointIn at j) (pointIn at m))
+    module _ (q j m : ℕ) (Q : q < n) (J : j < n) (M : m < n) (s : same atBinary64 (pointIn at q) (pointIn at j) ≡ true) where
+      alike : (ahead atBinary64 (pointIn at m) (pointIn at q) ≡ ahead atBinary64 (pointIn at m) (pointIn at j)) × (ahead atBinary64 (pointIn at q) (pointIn at m) ≡ ahead atBinary64 (pointIn at j) (pointIn at m))
       unfolding laws
       alike = ahead-ext laws (pointIn at q) (pointIn at j) (pointIn at m) (fine-at q Q) (fine-at j J) (fine-at m M) s
 
-      one : ahead binary64 (pointIn at q) (pointIn at m) ≡ false → ahead binary64 (pointIn at m) (pointIn at q) ≡ false → same binary64 (pointIn at q) (pointIn at m) ≡ true
+      one : ahead atBinary64 (pointIn at q) (pointIn at m) ≡ false → ahead atBinary64 (pointIn at m) (pointIn at q) ≡ false → same atBinary64 (pointIn at q) (pointIn at m) ≡ true
       one = one-point (pointIn at q) (pointIn at m) (fine-at q Q) (fine-at m M)
 
       -- a point between two that are one is one with them
-      between-below : j < m → m < q → same binary64 (pointIn at q) (pointIn at m) ≡ true
+      between-below : j < m → m < q → same atBinary64 (pointIn at q) (pointIn at m) ≡ true
       between-below a b = one (later m q b Q) (alike .0 ∙ later j m a M)
 
-      between-above : q < m → m < j → same binary64 (pointIn at q) (pointIn at m) ≡ true
+      between-above : q < m → m < j → same atBinary64 (pointIn at q) (pointIn at m) ≡ true
       between-above a b = one (alike .1 ∙ later m j b J) (later q m a M)
 
   -- ---- the block
 
   module _ (p : Coordinate) where
     abbrev Here : ℕ → Bool
-    Here j = same binary64 p (pointIn at j)
+    Here j = same atBinary64 p (pointIn at j)
 
     start-low : (i : ℕ) → blockStart at p i ≤ i
     unfolding blockStart
@@ -249,24 +249,24 @@ module _ (t : Rows) (o : inOrder (t .at) 0 (size t) ≡ true) where
     hi-high = let h = end-high (t .at) p (q + 1) (size t - (q + 1)) in (h .0, omega (arith, h .1))
 
     -- no other row has the point
-    below-lo : (j : ℕ) → j < lo → same binary64 p (pointAt t j) ≡ false
+    below-lo : (j : ℕ) → j < lo → same atBinary64 p (pointAt t j) ≡ false
     below-lo = start-out (t .at) p q (λ j m a b s. between-below (t .at) (size t) o q j m l (omega arith) (omega arith) s a b)
 
-    above-hi : (j : ℕ) → hi ≤ j → j < size t → same binary64 p (pointAt t j) ≡ false
+    above-hi : (j : ℕ) → hi ≤ j → j < size t → same atBinary64 p (pointAt t j) ≡ false
     above-hi j a b =
         end-out (t .at) p (q + 1) (size t - (q + 1)) (λ m j x y z s. between-above (t .at) (size t) o q j m l (omega arith) (omega arith) s (omega arith) y) j a (omega arith)
 
     abbrev isRight : ℕ → Bool
-    isRight j = same binary64 p (tableRow t j .point) && not (tableRow t j .left)
+    isRight j = same atBinary64 p (tableRow t j .point) && not (tableRow t j .left)
 
     abbrev isLeft : ℕ → Bool
-    isLeft j = same binary64 p (tableRow t j .point) && tableRow t j .left
+    isLeft j = same atBinary64 p (tableRow t j .point) && tableRow t j .left
 
-    no-right : (j : ℕ) → same binary64 p (pointAt t j) ≡ false → isRight j ≡ false
+    no-right : (j : ℕ) → same atBinary64 p (pointAt t j) ≡ false → isRight j ≡ false
     unfolding tableRow rowOf
     no-right j h = rw h
 
-    no-left : (j : ℕ) → same binary64 p (pointAt t j) ≡ false → isLeft j ≡ false
+    no-left : (j : ℕ) → same atBinary64 p (pointAt t j) ≡ false → isLeft j ≡ false
     unfolding tableRow rowOf
     no-left j h = rw h
 
@@ -295,7 +295,7 @@ module _ (t : Rows) (o : inOrder (t .at) 0 (size t) ≡ true) where
     unfolding rights
     right-high = up-window isRight (q + 1) (q + 1) hi (size t) (omega arith) (hi-high .0) (hi-high .1) (λ j x y. absurd (omega arith)) (λ j x y. no-right j (above-hi j x y))
 
-    around-is : around t q ≡ tries (same binary64) (size t) (tableRow t) q
+    around-is : around t q ≡ tries (same atBinary64) (size t) (tableRow t) q
     unfolding around triesIn
     around-is =
         ap₂ (cond (endAt t q .left))
@@ -303,16 +303,16 @@ module _ (t : Rows) (o : inOrder (t .at) 0 (size t) ≡ true) where
         (sym (ap₂ _++_ right-high (ap₂ _++_ left-all right-low)))
         ∙ tries-all t q
 
-  tried-near : (q : ℕ) → tried t true q ≡ tries (same binary64) (size t) (tableRow t) q
+  tried-near : (q : ℕ) → tried t true q ≡ tries (same atBinary64) (size t) (tableRow t) q
   unfolding tried
   tried-near q = go (decLt q (size t))
     where
-      go : Dec (q < size t) → cond (ltb q (size t)) (around t q) (tries (same binary64) (size t) (tableRow t) q) ≡ tries (same binary64) (size t) (tableRow t) q
+      go : Dec (q < size t) → cond (ltb q (size t)) (around t q) (tries (same atBinary64) (size t) (tableRow t) q) ≡ tries (same atBinary64) (size t) (tableRow t) q
       go (yes l) = rw (lt-ltb q (size t) l) (around-is q l)
       go (no l) = rw (le-ltb q (size t) (omega arith))
 
 -- by the block only where the points stand in order: what is tried is what the definition tries
-pub tried-is : (t : Rows) (near : Bool) → (near ≡ true → inOrder (t .at) 0 (size t) ≡ true) → (q : ℕ) → tried t near q ≡ tries (same binary64) (size t) (tableRow t) q
+pub tried-is : (t : Rows) (near : Bool) → (near ≡ true → inOrder (t .at) 0 (size t) ≡ true) → (q : ℕ) → tried t near q ≡ tries (same atBinary64) (size t) (tableRow t) q
 unfolding tried
 tried-is t true h q = tried-near t (h refl) q
 tried-is t false h q = refl

@@ -10,7 +10,7 @@ use borrow.Author.Tests.{le-ltb, lt-ltb, not-true, not-false}
 use lib.ListN.{length, getD, List·getD-eq-default}
 use Rattle.numbers.specs.declared.Coordinate.{Coordinate}
 use Rattle.events.specs.Coordinates.{same}
-use Rattle.events.specs.Binary64.{binary64}
+use Rattle.events.specs.Binary64.{atBinary64}
 use Rattle.checks.specs.Numbers.{numbersFrom}
 use Rattle.contours.specs.Result.{keep}
 use Rattle.contours.specs.Round.{down, isOpen, seek, rights, lefts, tries}
@@ -52,7 +52,7 @@ module _ (t : Rows) (ms : List ℕ) (p : Coordinate) (l : Bool) (i m : ℕ) (e :
     unfolding fitting
     fit-side z = rw (← e, open-yes m h, ← g, z)
 
-    pub fit-same : Bool·beq (r .left) l ≡ true → (q : Coordinate) (b : Bool) → q ≡ pointAt t i → b ≡ same binary64 p q → b ≡ fitting t ms p l i
+    pub fit-same : Bool·beq (r .left) l ≡ true → (q : Coordinate) (b : Bool) → q ≡ pointAt t i → b ≡ same atBinary64 p q → b ≡ fitting t ms p l i
     unfolding fitting
     fit-same z q b k s = rw (← e, open-yes m h, ← g, z, ← k) s
 
@@ -61,10 +61,10 @@ module _ (t : Rows) (ms : List ℕ) (p : Coordinate) (l : Bool) (i m : ℕ) (e :
 module _ (t : Rows) (ms : List ℕ) (p : Coordinate) where
   right-step : (i k : ℕ) → rightsFrom t ms p i (suc k) ≡ cond (fitting t ms p false i) i (rightsFrom t ms p (suc i) k)
   unfolding rightsFrom rights keep numbersFrom seek found fitting markIn tableRow rowOf
-  right-step i k = go (isOpen (getD ms i 1)) (endAt t i .left) (same binary64 p (pointAt t i)) refl
+  right-step i k = go (isOpen (getD ms i 1)) (endAt t i .left) (same atBinary64 p (pointAt t i)) refl
     where
       rest : List ℕ
-      rest = keep (λ j. same binary64 p (pointAt t j) && not (endAt t j .left)) (numbersFrom (suc i) k)
+      rest = keep (λ j. same atBinary64 p (pointAt t j) && not (endAt t j .left)) (numbersFrom (suc i) k)
 
       go : (o l s : Bool) → isOpen (getD ms i 1) ≡ o
           → found (length ms) (seek ms (cond (s && not l) (i ∷ rest) rest)) ≡ cond (cond o (cond (Bool·beq l false) s false) false) i (found (length ms) (seek ms rest))
@@ -79,10 +79,10 @@ module _ (t : Rows) (ms : List ℕ) (p : Coordinate) where
 
   left-step : (i k : ℕ) → leftsFrom t ms p i (suc k) ≡ cond (fitting t ms p true (i + k)) (i + k) (leftsFrom t ms p i k)
   unfolding leftsFrom lefts keep down seek found fitting markIn tableRow rowOf
-  left-step i k = go (isOpen (getD ms (i + k) 1)) (endAt t (i + k) .left) (same binary64 p (pointAt t (i + k))) refl
+  left-step i k = go (isOpen (getD ms (i + k) 1)) (endAt t (i + k) .left) (same atBinary64 p (pointAt t (i + k))) refl
     where
       rest : List ℕ
-      rest = keep (λ j. same binary64 p (pointAt t j) && endAt t j .left) (down i k)
+      rest = keep (λ j. same atBinary64 p (pointAt t j) && endAt t j .left) (down i k)
 
       go : (o l s : Bool) → isOpen (getD ms (i + k) 1) ≡ o
           → found (length ms) (seek ms (cond (s && l) ((i + k) ∷ rest) rest)) ≡ cond (cond o (cond (Bool·beq l true) s false) false) (i + k) (found (length ms) (seek ms rest))
@@ -167,12 +167,12 @@ module _ (t : Rows) (ms : List ℕ) (p : Coordinate) where
 -- ---- the next position
 
 -- the whole table as a run of rows
-pub tries-all : (t : Rows) (q : ℕ) → triesIn t (pointAt t q) 0 (size t) q ≡ tries (same binary64) (size t) (tableRow t) q
+pub tries-all : (t : Rows) (q : ℕ) → triesIn t (pointAt t q) 0 (size t) q ≡ tries (same atBinary64) (size t) (tableRow t) q
 unfolding triesIn tries tableRow rowOf
 tries-all t q = rw (sub-zero q, sub-zero (size t))
 
 module _ (t : Rows) (ms : List ℕ) (q : ℕ) (p : Coordinate) (a : p ≡ pointAt t q) where
-  all-is : nextIn t ms p 0 (size t) q ≡ found (length ms) (seek ms (tries (same binary64) (size t) (tableRow t) q))
+  all-is : nextIn t ms p 0 (size t) q ≡ found (length ms) (seek ms (tries (same atBinary64) (size t) (tableRow t) q))
   unfolding nextIn
   all-is = rw (a, tries-all t q)
 
@@ -184,7 +184,7 @@ module _ (t : Rows) (ms : List ℕ) (q : ℕ) (p : Coordinate) (a : p ≡ pointA
   unfolding nextPos tried
   next-beyond near h r d = rw (le-ltb q (size t) h) (go near)
     where
-      go : (b : Bool) → r ≡ found (length ms) (seek ms (cond (b && false) (around t q) (tries (same binary64) (size t) (tableRow t) q)))
+      go : (b : Bool) → r ≡ found (length ms) (seek ms (cond (b && false) (around t q) (tries (same atBinary64) (size t) (tableRow t) q)))
       go true = d ∙ all-is
       go false = d ∙ all-is
 

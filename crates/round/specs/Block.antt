@@ -5,24 +5,24 @@ use Prim.Native.Nat.{ℕ, zero, suc}
 use lib.Ieee.{Float}
 use Rattle.numbers.specs.declared.Coordinate.{Coordinate}
 use Rattle.events.specs.Coordinates.{same, ahead}
-use Rattle.events.specs.Binary64.{binary64}
+use Rattle.events.specs.Binary64.{atBinary64}
 use Rattle.rows.specs.Rows.{pointIn}
 
 module _ (at : List (List Float)) where
   -- the first of the rows straight below i that have the point p; i where there is none
   unfoldable pub blockStart : Coordinate → ℕ → ℕ
   blockStart p zero = zero
-  blockStart p (suc i) = cond (same binary64 p (pointIn at i)) (blockStart p i) (suc i)
+  blockStart p (suc i) = cond (same atBinary64 p (pointIn at i)) (blockStart p i) (suc i)
 
   -- where those of k rows from i on end
   unfoldable pub blockEnd : Coordinate → ℕ → ℕ → ℕ
   blockEnd p i zero = i
-  blockEnd p i (suc k) = cond (same binary64 p (pointIn at i)) (blockEnd p (suc i) k) i
+  blockEnd p i (suc k) = cond (same atBinary64 p (pointIn at i)) (blockEnd p (suc i) k) i
 
   -- the point at i is fit and not ahead of the one below it
   unfoldable pub stands : ℕ → Bool
-  stands zero = binary64 .fit (pointIn at zero)
-  stands (suc i) = binary64 .fit (pointIn at (suc i)) && not (ahead binary64 (pointIn at (suc i)) (pointIn at i))
+  stands zero = atBinary64 .fit (pointIn at zero)
+  stands (suc i) = atBinary64 .fit (pointIn at (suc i)) && not (ahead atBinary64 (pointIn at (suc i)) (pointIn at i))
 
   -- k points from i on
   unfoldable pub inOrder : ℕ → ℕ → Bool

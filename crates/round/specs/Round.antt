@@ -8,7 +8,7 @@ use lib.Dec.{ltb}
 use lib.ListN.{length, getD}
 use Rattle.numbers.specs.declared.Coordinate.{Coordinate}
 use Rattle.events.specs.Coordinates.{same}
-use Rattle.events.specs.Binary64.{binary64}
+use Rattle.events.specs.Binary64.{atBinary64}
 use Rattle.contours.specs.Round.{isOpen, seek, rights, lefts, tries}
 use Rattle.rows.specs.Rows.{Rows, size, pointAt, endAt, tableRow}
 use Rattle.round.specs.Block.{blockStart, blockEnd}
@@ -25,10 +25,10 @@ markIn ms i = getD ms i 1
 
 module _ (t : Rows) (p : Coordinate) where
   abbrev pub rightEnds : ℕ → ℕ → List ℕ
-  rightEnds i k = rights (same binary64) (size t) (tableRow t) p i k
+  rightEnds i k = rights (same atBinary64) (size t) (tableRow t) p i k
 
   abbrev pub leftEnds : ℕ → ℕ → List ℕ
-  leftEnds i k = lefts (same binary64) (size t) (tableRow t) p i k
+  leftEnds i k = lefts (same atBinary64) (size t) (tableRow t) p i k
 
   -- from a left end, from a right end, and from either
   abbrev pub leftTries : ℕ → ℕ → ℕ → List ℕ
@@ -49,7 +49,7 @@ module _ (t : Rows) where
 
   -- by those where `near`, by all where not, and for a position beyond the table
   unfoldable pub tried : Bool → ℕ → List ℕ
-  tried near q = cond (near && ltb q (size t)) (around q) (tries (same binary64) (size t) (tableRow t) q)
+  tried near q = cond (near && ltb q (size t)) (around q) (tries (same atBinary64) (size t) (tableRow t) q)
 
   unfoldable pub nextPos : Bool → List ℕ → ℕ → ℕ
   nextPos near ms q = found (length ms) (seek ms (tried near q))
@@ -58,7 +58,7 @@ module _ (t : Rows) where
 
 -- the end at i is a left end, or a right end, at the point p, and open
 unfoldable pub fitting : Rows → List ℕ → Coordinate → Bool → ℕ → Bool
-fitting t ms p l i = cond (isOpen (markIn ms i)) (cond (Bool·beq (endAt t i .left) l) (same binary64 p (pointAt t i)) false) false
+fitting t ms p l i = cond (isOpen (markIn ms i)) (cond (Bool·beq (endAt t i .left) l) (same atBinary64 p (pointAt t i)) false) false
 
 module _ (t : Rows) (ms : List ℕ) (p : Coordinate) where
   -- the first open end among the right ends, and among the left ends

@@ -16,7 +16,7 @@ use Rattle.orientation.specs.declared.Sign.{Sign}
 use Rattle.orientation.specs.declared.Sign.the-variants.{Negative, Positive}
 use Rattle.orientation.specs.Orientation.{signedArea}
 use Rattle.events.specs.Coordinates.{same, none}
-use Rattle.events.specs.Binary64.{binary64, inMode}
+use Rattle.events.specs.Binary64.{atBinary64, inMode}
 use Rattle.events.specs.Event.{Key}
 use Rattle.order.specs.Order.{byNumber, before, isZero}
 use Rattle.order.proofs.Steps.{sign-positive, sign-negative}
@@ -31,10 +31,10 @@ use Rattle.segments.proofs.Boxes.{Apart-in-y, crossing-above, crossing-
 
 -- the four numbers of a key are binary64's, whatever else they are
 pub record Held (k : Key Coordinate) : Type 0 where
-  pub x : T (fits I.binary64 (k .point .x))
-  pub y : T (fits I.binary64 (k .point .y))
-  pub mate-x : T (fits I.binary64 (k .mate .x))
-  pub mate-y : T (fits I.binary64 (k .mate .y))
+  pub x : T (fits I.atBinary64 (k .point .x))
+  pub y : T (fits I.atBinary64 (k .point .y))
+  pub mate-x : T (fits I.atBinary64 (k .mate .x))
+  pub mate-y : T (fits I.atBinary64 (k .mate .y))
 
 -- ---- what the tests tell
 both : (p q : Bool) → cond p q false ≡ true → (p ≡ true) × (q ≡ true)
@@ -119,12 +119,12 @@ module _ (old new : Key Coordinate) (b : Beside (old .point .x) (new .point .x) 
   not-earlier = lt-place (new .point .x) (old .point .x) (b .start) (b .wide .first) ∙ le-ltb _ _ (b .from)
 
   -- at one x the higher one is the newer
-  newer-above : Rising (old .point .y) (new .point .y) → before binary64 new old ≡ false
-  unfolding before byNumber binary64
+  newer-above : Rising (old .point .y) (new .point .y) → before atBinary64 new old ≡ false
+  unfolding before byNumber atBinary64
   newer-above r = rw (not-earlier, not-less r, less r) (alike (lt (old .point .x) (new .point .x)) false)
 
-  newer : lt (old .point .x) (new .point .x) ≡ true → before binary64 new old ≡ false
-  unfolding before byNumber binary64
+  newer : lt (old .point .x) (new .point .x) ≡ true → before atBinary64 new old ≡ false
+  unfolding before byNumber atBinary64
   newer t = rw (not-earlier, t)
 
 -- ---- the answers, in every mode: the sign of the newer one's left end decides, for there is no crossing
@@ -137,30 +137,30 @@ one-x false u v = refl
 module _ (mode : ℕ) (old new : Key Coordinate) where
   decided : (s : Sign) → isZero s ≡ false → signedArea (old .point) (old .mate) (new .point) ≡ s
       → inMode mode (old .point) (old .mate) (new .point) (new .mate) ≡ none
-      → eq (old .point .y) (new .point .y) ≡ false → lt (old .point .y) (new .point .y) ≡ isPositive s → oldBelow binary64 (inMode mode) old new ≡ isPositive s
-  unfolding oldBelow apart same byCrossing binary64
+      → eq (old .point .y) (new .point .y) ≡ false → lt (old .point .y) (new .point .y) ≡ isPositive s → oldBelow atBinary64 (inMode mode) old new ≡ isPositive s
+  unfolding oldBelow apart same byCrossing atBinary64
   decided s z turn cross level rise =
       let right = isPositive (signedArea (old .point) (old .mate) (new .mate)) in
       rw (turn, z, level, rise, cross, alike (Bool·beq (isPositive s) right) (isPositive s)) (one-x (eq (old .point .x) (new .point .x)) (isPositive s) right)
 
   -- .. however it is known where the numbers stand
   module _ (b : Beside (old .point .x) (new .point .x) (old .mate .x)) where
-    pub lies-above : Apart-in-y (old .point .y) (old .mate .y) (new .point .y) (new .mate .y) → compareSegments binary64 (inMode mode) new old ≡ Greater
+    pub lies-above : Apart-in-y (old .point .y) (old .mate .y) (new .point .y) (new .mate .y) → compareSegments atBinary64 (inMode mode) new old ≡ Greater
     unfolding compareSegments lessIfInversed isPositive isZero
     lies-above r =
         let cross = crossing-above mode (old .point) (old .mate) (new .point) (new .mate) r in
         rw (newer-above old new b (r .a-c), decided Positive refl (left-turn old new b r) cross (not-level (r .a-c)) (less (r .a-c)))
 
     lies-below : lt (old .point .x) (new .point .x) ≡ true → Apart-in-y (new .point .y) (new .mate .y) (old .point .y) (old .mate .y)
-        → compareSegments binary64 (inMode mode) new old ≡ Less
+        → compareSegments atBinary64 (inMode mode) new old ≡ Less
     unfolding compareSegments lessIfInversed isPositive isZero
     lies-below t r =
         let cross = crossing-below mode (new .point) (new .mate) (old .point) (old .mate) r in
         rw (newer old new b t, decided Negative refl (right-turn old new b r) cross (not-level-turned (r .a-c)) (not-less (r .a-c)))
 
   module _ (O : Held old) (N : Held new) (t : beside old new ≡ true) where
-    pub above : under old new ≡ true → compareSegments binary64 (inMode mode) new old ≡ Greater
+    pub above : under old new ≡ true → compareSegments atBinary64 (inMode mode) new old ≡ Greater
     above u = lies-above (is-beside old new O N t) (is-under old new O N u)
 
-    pub below : lt (old .point .x) (new .point .x) ≡ true → under new old ≡ true → compareSegments binary64 (inMode mode) new old ≡ Less
+    pub below : lt (old .point .x) (new .point .x) ≡ true → under new old ≡ true → compareSegments atBinary64 (inMode mode) new old ≡ Less
     below v u = lies-below (is-beside old new O N t) v (is-under new old N O u)

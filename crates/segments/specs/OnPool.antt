@@ -2,7 +2,7 @@
 use mathlib.Core.Bool.{cond}
 use Prim.Native.Nat.{ℕ}
 use lib.Dec.{eqb}
-use Rattle.events.specs.Binary64.{binary64, inMode}
+use Rattle.events.specs.Binary64.{atBinary64, inMode}
 use Rattle.events.specs.Pool.{Pool}
 use Rattle.order.specs.Keys.{keyAt}
 use Rattle.segments.specs.declared.Ordering.{Ordering}
@@ -11,4 +11,4 @@ use Rattle.segments.specs.Segments.{compareSegments}
 
 -- a record is equal to itself, and to no other
 unfoldable pub compareAt : ℕ → Pool → ℕ → ℕ → Ordering
-compareAt mode p a b = cond (eqb a b) Equal (compareSegments binary64 (inMode mode) (keyAt p a) (keyAt p b))
+compareAt mode p a b = cond (eqb a b) Equal (compareSegments atBinary64 (inMode mode) (keyAt p a) (keyAt p b))

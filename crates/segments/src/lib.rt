@@ -3,7 +3,7 @@ mod quick;
 
 ghost use mathlib.Core.Path.{_≡_};
 ghost use mathlib.Core.Bool.{Bool};
-ghost use Rattle.events.specs.Binary64.{binary64, inMode, crossOf};
+ghost use Rattle.events.specs.Binary64.{atBinary64, inMode, crossOf};
 ghost use Rattle.events.specs.Pool.{pool};
 ghost use Rattle.order.specs.Keys.{shownKey};
 ghost use Rattle.order.specs.Order.{isZero};
@@ -70,7 +70,7 @@ fn is_zero(sign: Sign) -> bool
 
 // Of two segments on one line: subject below clip; in one layer by ring from a shared end, else the older below.
 fn old_is_below_on_line(old: Key, new: Key) -> bool
-    ensures { λ r. ⌜ r ≡ alongside binary64 (shownKey old) (shownKey new) ⌝ }
+    ensures { λ r. ⌜ r ≡ alongside atBinary64 (shownKey old) (shownKey new) ⌝ }
 {
     if old.subject == new.subject {
         if same_point(old.point, new.point) {
@@ -89,7 +89,7 @@ fn old_is_below_by_crossing(
     left: bool,
     right: bool,
 ) -> bool
-    ensures { λ r. ⌜ r ≡ byCrossing binary64 (crossOf found) (shownKey old) (shownKey new) left right ⌝ }
+    ensures { λ r. ⌜ r ≡ byCrossing atBinary64 (crossOf found) (shownKey old) (shownKey new) left right ⌝ }
 {
     match found {
         LineIntersection::None => left,
@@ -106,7 +106,7 @@ fn old_is_below_by_crossing(
 
 // The ends are not all on the older one's line: where they lie decides, or the crossing does.
 fn old_is_below_off_line(old: Key, new: Key, sa_l: Sign, sa_r: Sign, mode: u32) -> bool
-    ensures { λ r. ⌜ r ≡ Segments.apart binary64 (inMode mode) (shownKey old) (shownKey new) «sa_l» «sa_r» ⌝ }
+    ensures { λ r. ⌜ r ≡ Segments.apart atBinary64 (inMode mode) (shownKey old) (shownKey new) «sa_l» «sa_r» ⌝ }
 {
     let left = is_positive(sa_l);
     let right = is_positive(sa_r);
@@ -128,7 +128,7 @@ fn old_is_below_off_line(old: Key, new: Key, sa_l: Sign, sa_r: Sign, mode: u32) 
 
 // Whether the older segment lies below the newer one.
 fn old_is_below(old: Key, new: Key, mode: u32) -> bool
-    ensures { λ r. ⌜ r ≡ oldBelow binary64 (inMode mode) (shownKey old) (shownKey new) ⌝ }
+    ensures { λ r. ⌜ r ≡ oldBelow atBinary64 (inMode mode) (shownKey old) (shownKey new) ⌝ }
 {
     let sa_l = signed_area(old.point, old.mate, new.point);
     let sa_r = signed_area(old.point, old.mate, new.mate);
@@ -167,7 +167,7 @@ fn by_boxes(a: Key, b: Key) -> ByBoxes
 
 // Of two left records that are not one: the one that comes first in event order is the older.
 pub fn compare_segments(a: Key, b: Key, mode: u32) -> Ordering
-    ensures { λ r. ⌜ r ≡ Segments.compareSegments binary64 (inMode mode) (shownKey a) (shownKey b) ⌝ }
+    ensures { λ r. ⌜ r ≡ Segments.compareSegments atBinary64 (inMode mode) (shownKey a) (shownKey b) ⌝ }
 {
     match by_boxes(a, b) {
         ByBoxes::Less => Ordering::Less,

@@ -7,7 +7,7 @@ use mathlib.Core.List.{List}
 use Prim.Native.Nat.{ℕ}
 use lib.Ieee.{Float}
 use Rattle.refusals.specs.declared.Refusal.{Refusal}
-use Rattle.events.specs.Binary64.{binary64}
+use Rattle.events.specs.Binary64.{atBinary64}
 use Rattle.events.specs.Pool.{Pool, size, rowAt}
 use Rattle.class.specs.declared.Operation.{Operation}
 use Rattle.checks.specs.declared.Check.the-variants.{Refused as Struck}
@@ -80,7 +80,7 @@ short-by (Short.short-points a e) = ap (λ (y : Refusal). y .number) e
 short-by (Short.short-contours a b e) = ap (λ (y : Refusal). y .number) e
 short-by (Short.short-holes a b c e) = ap (λ (y : Refusal). y .number) e
 
-cause-by : (p : Pool) (list : List ℕ) (room : Room) (points marks : ℕ) (r : Refusal) → Cause binary64 (rowAt p) (size p) points marks list room r → byChecks (r .number) ≡ true
+cause-by : (p : Pool) (list : List ℕ) (room : Room) (points marks : ℕ) (r : Refusal) → Cause atBinary64 (rowAt p) (size p) points marks list room r → byChecks (r .number) ≡ true
 cause-by p list room points marks r (Cause.list1 a e) = by-number _ 1 (ap (λ (y : Refusal). y .number) e) one
 cause-by p list room points marks r (Cause.size1 a b e) = by-number _ 1 (ap (λ (y : Refusal). y .number) e) one
 cause-by p list room points marks r (Cause.unfit2 t) = by-number _ 2 (t .number-is) two

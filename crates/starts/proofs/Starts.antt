@@ -14,7 +14,7 @@ use lib.Seq.{sets, sets-eq}
 use lib.Dec.{eqb, ltb}
 use lib.Ieee.{Float}
 use Rattle.events.specs.Coordinates.{same}
-use Rattle.events.specs.Binary64.{binary64}
+use Rattle.events.specs.Binary64.{atBinary64}
 use Rattle.checks.specs.Checks.{maxEvents}
 use Rattle.contours.specs.Result.{keep}
 use Rattle.contours.specs.Table.{Below}
@@ -172,7 +172,7 @@ module _ (t : Rows) (near : Bool) (out : List (List Float)) (ns : List (List ℕ
   -- where the points stand in order if `near`
   module _ (o : near ≡ inOrder (t .at) 0 (size t)) where
     starts-are : (k i : ℕ) (ms : List ℕ) (cs : List Contour) → length cs ≤ i → i + k ≡ size t → size t ≤ length ns
-        → starts t near k i (sheetOf t out ns ms cs 0 0) ≡ answerOf t out ns (turns (same binary64) (size t) (tableRow t) k i ms cs)
+        → starts t near k i (sheetOf t out ns ms cs 0 0) ≡ answerOf t out ns (turns (same atBinary64) (size t) (tableRow t) k i ms cs)
     unfolding starts startAt placeAt turns turn make isOpen answerOf sheetOf tableRow rowOf after markIn marksOf
     starts-are zero i ms cs a b c = refl
     starts-are (suc k) i ms cs a b c =
@@ -189,14 +189,14 @@ module _ (t : Rows) (near : Bool) (out : List (List Float)) (ns : List (List ℕ
         next s = after t near (starts t near k (i + 1)) s
 
         Rest : Type 0
-        Rest = (ms′ : List ℕ) (cs′ : List Contour) → length cs′ ≤ i + 1 → starts t near k (i + 1) (sheetOf t out ns ms′ cs′ 0 0) ≡ answerOf t out ns (turns (same binary64) (size t) (tableRow t) k (i + 1) ms′ cs′)
+        Rest = (ms′ : List ℕ) (cs′ : List Contour) → length cs′ ≤ i + 1 → starts t near k (i + 1) (sheetOf t out ns ms′ cs′ 0 0) ≡ answerOf t out ns (turns (same atBinary64) (size t) (tableRow t) k (i + 1) ms′ cs′)
 
         -- the contour's trail, as the definition has it
         T : List ℕ
-        T = walk (same binary64) (size t) (tableRow t) (size t) (tableRow t i .point) (length cs) ms i
+        T = walk (same atBinary64) (size t) (tableRow t) (size t) (tableRow t i .point) (length cs) ms i
 
         more : Option ℕ → ℕ → Answer
-        more p d = turns (same binary64) (size t) (tableRow t) k (i + 1) (marksOf t (length cs) ms T) (cs ++ (contour T p d ∷ []))
+        more p d = turns (same atBinary64) (size t) (tableRow t) k (i + 1) (marksOf t (length cs) ms T) (cs ++ (contour T p d ∷ []))
 
         placing : (w : Place) → Rest → next (placeAt t near S i (foundOf t ns cs (omega arith) w)) ≡ answerOf t out ns (make w (halted 9 i ms cs) more)
         placing refuse r = refl
@@ -205,12 +205,12 @@ module _ (t : Rows) (near : Bool) (out : List (List Float)) (ns : List (List ℕ
             ∙ r (marksOf t (length cs) ms T) (cs ++ (contour T p d ∷ [])) (omega (arith, length-append cs (contour T p d ∷ [])))
 
         go : (m : ℕ) → Rest → next (cond (eqb m 0) (placeAt t near S i (foundOf t ns cs (omega arith) (context ms cs B))) S)
-            ≡ answerOf t out ns (turn (isOpen m) (λ _. make (context ms cs B) (halted 9 i ms cs) more) (λ _. turns (same binary64) (size t) (tableRow t) k (i + 1) ms cs))
+            ≡ answerOf t out ns (turn (isOpen m) (λ _. make (context ms cs B) (halted 9 i ms cs) more) (λ _. turns (same atBinary64) (size t) (tableRow t) k (i + 1) ms cs))
         go zero r = placing (context ms cs B) r
         go (suc m) r = rw (ne-eqb (suc m) 0 (λ z. omega arith)) (r ms cs (omega arith))
 
     -- from no mark at all
-    trace-is : size t ≤ length ns → starts t near (size t) 0 (sheet (replicate (size t) 0) out ns (turnOf 0 0 0 0 0)) ≡ answerOf t out ns (trace (same binary64) (size t) (tableRow t))
+    trace-is : size t ≤ length ns → starts t near (size t) 0 (sheet (replicate (size t) 0) out ns (turnOf 0 0 0 0 0)) ≡ answerOf t out ns (trace (same atBinary64) (size t) (tableRow t))
     unfolding trace sheetOf allCorners nestsFrom unclosedCount keep
     trace-is h = starts-are (size t) 0 (replicate (size t) 0) [] (omega arith) (omega arith) h
 

@@ -9,7 +9,7 @@ use lib.Dec.{eqb, leb}
 use lib.Seq.{sets}
 use lib.Ieee.{Float}
 use Rattle.events.specs.Coordinates.{same}
-use Rattle.events.specs.Binary64.{binary64}
+use Rattle.events.specs.Binary64.{atBinary64}
 use Rattle.checks.specs.Checks.{maxEvents}
 use Rattle.contours.specs.Result.{keep}
 use Rattle.contours.specs.Contours.{Contour, Answer, done, halted, trace}
@@ -66,4 +66,4 @@ module _ (t : Rows) where
   fits ms ns = leb (size t) maxEvents && (eqb (length ms) (size t) && leb (size t) (length ns))
 
   unfoldable pub tracedOn : List ℕ → List (List Float) → List (List ℕ) → Sheet
-  tracedOn ms out ns = cond (fits ms ns) (answerOf out ns (trace (same binary64) (size t) (tableRow t))) (sheet ms out ns (turnOf 0 0 0 0 0))
+  tracedOn ms out ns = cond (fits ms ns) (answerOf out ns (trace (same atBinary64) (size t) (tableRow t))) (sheet ms out ns (turnOf 0 0 0 0 0))

@@ -11,7 +11,7 @@ use lib.ListN.{length, take, drop}
 use lib.Seq.{sets, take-append-seam, drop-append-seam}
 use Rattle.lists.proofs.Fronts.{sets-front, first-are}
 use Rattle.numbers.specs.declared.Coordinate.{Coordinate}
-use Rattle.events.specs.Binary64.{binary64, inMode}
+use Rattle.events.specs.Binary64.{atBinary64, inMode}
 use Rattle.events.specs.Pool.{Pool, stored}
 use Rattle.events.proofs.Stored.{pool-stored}
 use Rattle.class.specs.declared.Operation.{Operation}
@@ -30,7 +30,7 @@ use Rattle.sweep.proofs.Whole.{all-taken}
 
 module _ (op : Operation) (mode : ℕ) (p : Pool) (n : ℕ) (lent : List ℕ) where
   abbrev last : State Pool
-  last = subdivide binary64 stored (inMode mode) op p n
+  last = subdivide atBinary64 stored (inMode mode) op p n
 
   -- refused or not
   pub used-counted : subdividePool op mode p n lent .answer .used ≡ n + 2 * subdividePool op mode p n lent .answer .divisions
@@ -38,7 +38,7 @@ module _ (op : Operation) (mode : ℕ) (p : Pool) (n : ℕ) (lent : List ℕ) wh
   used-counted = go (accept p n lent)
     where
       go : (x : Check) → afterChecks x op mode p n lent .answer .used ≡ n + 2 * afterChecks x op mode p n lent .answer .divisions
-      go Passed = used-is binary64 stored pool-stored (inMode mode) op p n
+      go Passed = used-is atBinary64 stored pool-stored (inMode mode) op p n
       go (Struck r) = omega arith
 
   module _ (h : accept p n lent ≡ Passed) where
@@ -46,7 +46,7 @@ module _ (op : Operation) (mode : ℕ) (p : Pool) (n : ℕ) (lent : List ℕ) wh
     room =
         let a = accepted p n lent h in
         let s = places-are p (a .0) in
-        let k = counted binary64 stored pool-stored (inMode mode) op p n .places in
+        let k = counted atBinary64 stored pool-stored (inMode mode) op p n .places in
         omega (arith, s, k, a .1)
 
     list : sets lent 0 (last .taken) ≡ last .taken ++ drop (length (last .taken)) lent
@@ -65,16 +65,16 @@ module _ (op : Operation) (mode : ℕ) (p : Pool) (n : ℕ) (lent : List ℕ) wh
     done-ended = rw h (λ e. by (last .stop) refl e)
       where
         by : (x : Stop) → last .stop ≡ x → outcomeOf x ≡ Done → last .stop ≡ Stops.Ended
-        by Stops.Going s e = absurd (ends binary64 stored pool-stored (inMode mode) op p n s)
+        by Stops.Going s e = absurd (ends atBinary64 stored pool-stored (inMode mode) op p n s)
         by Stops.Ended s e = s
         by (Stops.Refused r) s e = absurd (let z : _≡_ {A = ℕ} 0 1 = cc in omega arith)
 
   -- every place in use is listed, where no point lies past all that matters
-  pub all-listed : ((a b : Option Coordinate) (q : Coordinate) → isPast binary64 op a b q ≡ false) → subdividePool op mode p n lent .answer .outcome ≡ Done
+  pub all-listed : ((a b : Option Coordinate) (q : Coordinate) → isPast atBinary64 op a b q ≡ false) → subdividePool op mode p n lent .answer .outcome ≡ Done
       → (r : ℕ) → r < subdividePool op mode p n lent .answer .used → List·Memᴰ r (take (subdividePool op mode p n lent .answer .taken) (subdividePool op mode p n lent .taken))
   unfolding subdividePool afterChecks afterRun answerOf asLent
   all-listed never d = go (accept p n lent) refl
     where
       go : (x : Check) → accept p n lent ≡ x → (r : ℕ) → r < afterChecks x op mode p n lent .answer .used → List·Memᴰ r (take (afterChecks x op mode p n lent .answer .taken) (afterChecks x op mode p n lent .taken))
-      go Passed h r l = rw (first-are lent (last .taken) (length (last .taken)) refl (room h)) (all-taken binary64 stored pool-stored (inMode mode) op never p n (loaded-within p n lent h) (done-ended h d) r l)
+      go Passed h r l = rw (first-are lent (last .taken) (length (last .taken)) refl (room h)) (all-taken atBinary64 stored pool-stored (inMode mode) op never p n (loaded-within p n lent h) (done-ended h d) r l)
       go (Struck x) h r l = let e : Refused x ≡ Done = rw h at d in absurd (let z : _≡_ {A = ℕ} 0 1 = cc in omega arith)

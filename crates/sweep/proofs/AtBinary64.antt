@@ -9,7 +9,7 @@ use lib.ListN.{length, take, replicate}
 use lib.Seq.{length-take-le, take-take}
 use Rattle.numbers.specs.declared.Coordinate.{Coordinate}
 use Rattle.events.specs.declared.Link.the-variants.{To}
-use Rattle.events.specs.Binary64.{binary64}
+use Rattle.events.specs.Binary64.{atBinary64}
 use Rattle.events.specs.Coordinates.{Crossing}
 use Rattle.events.specs.Pool.{Pool, rowAt, stored}
 use Rattle.events.specs.Store.{look}
@@ -42,16 +42,16 @@ use Rattle.sweep.proofs.Lines.{lined-next, lined-tie, lined-step, lined
 -- ---- what the checks leave
 
 module _ (p : Pool) (n : ℕ) (taken : List ℕ) (h : accept p n taken ≡ Passed) where
-  each-sound : (r : ℕ) → r < n → Checked.Sound binary64 (rowAt p) n r
+  each-sound : (r : ℕ) → r < n → Checked.Sound atBinary64 (rowAt p) n r
   unfolding accept
   each-sound r l =
-      let all = checked-passed binary64 (rowAt p) n (numbersFrom 0 n) (both-passed (sizes (length (p .points)) (length (p .marks)) (length taken) n) _ h .1) in
+      let all = checked-passed atBinary64 (rowAt p) n (numbersFrom 0 n) (both-passed (sizes (length (p .points)) (length (p .marks)) (length taken) n) _ h .1) in
       let long = length-numbers 0 n in
-      subst (Checked.Sound binary64 (rowAt p) n) (number-at 0 n r l ∙ zero-add r) (all r (omega arith))
+      subst (Checked.Sound atBinary64 (rowAt p) n) (number-at 0 n r l ∙ zero-add r) (all r (omega arith))
 
-  pub good-accepted : Good binary64 stored p n
+  pub good-accepted : Good atBinary64 stored p n
   unfolding stored
-  good-accepted = good-checked binary64 stored p n (loaded-within p n taken h) each-sound
+  good-accepted = good-checked atBinary64 stored p n (loaded-within p n taken h) each-sound
 
 -- the queue after the records from `from` up to `used` came into use
 abbrev pub relined : (p : Pool) (w : List Bool) (from used room : ℕ) → List ℕ → List ℕ
@@ -66,22 +66,22 @@ module _ {p : Pool} {w : List Bool} {queue : List ℕ} {t : Turn} (q : Queues p 
   abbrev line : List ℕ
   line = take (t .waiting) queue
 
-  lined-here : Lined binary64 stored here line
+  lined-here : Lined atBinary64 stored here line
   unfolding isBefore
   lined-here = let h = q .lined in record { good = h .good; queued = h .queued; fresh = h .fresh }
 
   as-many : length line ≡ t .waiting
   as-many = length-take-le (t .waiting) queue (q .within)
 
-  pub next-at : below line (t .waiting) ≡ next binary64 stored here
+  pub next-at : below line (t .waiting) ≡ next atBinary64 stored here
   next-at = ap (below line) (sym as-many) ∙ lined-next move-laws pool-stored pool-blanks lined-here
 
-  pub tie-at : (e : ℕ) → next binary64 stored here ≡ To e → tiesWith (beforeUsed p (t .used)) e (below line (t .waiting - 1)) ≡ isTied binary64 stored here e
+  pub tie-at : (e : ℕ) → next atBinary64 stored here ≡ To e → tiesWith (beforeUsed p (t .used)) e (below line (t .waiting - 1)) ≡ isTied atBinary64 stored here e
   unfolding isBefore beforeUsed
   tie-at e n = ap (λ k. tiesWith (beforeUsed p (t .used)) e (below line (k - 1))) (sym as-many) ∙ lined-tie move-laws pool-stored pool-blanks lined-here e n
 
   -- where an event is to be taken, the queue is not empty
-  pub some-wait : (e : ℕ) → next binary64 stored here ≡ To e → 0 < t .waiting
+  pub some-wait : (e : ℕ) → next atBinary64 stored here ≡ To e → 0 < t .waiting
   unfolding below
   some-wait e n = go (t .waiting) (next-at ∙ n)
     where
@@ -91,32 +91,32 @@ module _ {p : Pool} {w : List Bool} {queue : List ℕ} {t : Turn} (q : Queues p 
 
   -- ---- after a step in which event e is taken
 
-  module _ (crossing : Crossing Coordinate) (op : Operation) (past : Coordinate → Bool) (e : ℕ) (n : next binary64 stored here ≡ To e) where
+  module _ (crossing : Crossing Coordinate) (op : Operation) (past : Coordinate → Bool) (e : ℕ) (n : next atBinary64 stored here ≡ To e) where
     abbrev there : State Pool
-    there = turn binary64 stored crossing op past (takes here e (isTied binary64 stored here e)) e
+    there = turn atBinary64 stored crossing op past (takes here e (isTied atBinary64 stored here e)) e
 
     same-size : stored .size (there .store) ≡ stored .size p
     unfolding takes
-    same-size = turn-size binary64 stored pool-stored crossing op past (takes here e (isTied binary64 stored here e)) e
+    same-size = turn-size atBinary64 stored pool-stored crossing op past (takes here e (isTied atBinary64 stored here e)) e
 
-    lined-there : Lined binary64 stored there (relined (there .store) (there .waits) (t .used) (there .used) (length queue) (take (t .waiting - 1) queue))
+    lined-there : Lined atBinary64 stored there (relined (there .store) (there .waits) (t .used) (there .used) (length queue) (take (t .waiting - 1) queue))
     unfolding isBefore beforeUsed
     lined-there =
         let shorter : take (length line - 1) line ≡ take (t .waiting - 1) queue = ap (λ k. take (k - 1) line) as-many ∙ take-take (t .waiting - 1) (t .waiting) queue (omega arith) in
-        subst (λ l. Lined binary64 stored there (relined (there .store) (there .waits) (t .used) (there .used) (length queue) l)) shorter
-        (lined-step move-laws pool-stored pool-blanks crossing op past here line (length queue) lined-here (q .room) e (isTied binary64 stored here e) n)
+        subst (λ l. Lined atBinary64 stored there (relined (there .store) (there .waits) (t .used) (there .used) (length queue) l)) shorter
+        (lined-step move-laws pool-stored pool-blanks crossing op past here line (length queue) lined-here (q .room) e (isTied atBinary64 stored here e) n)
 
-    pub step-at : (p' : Pool) (w' : List Bool) (queue' status' taken' : List ℕ) (r : Turn) → state p' w' status' taken' r ≡ step binary64 stored crossing op past here
+    pub step-at : (p' : Pool) (w' : List Bool) (queue' status' taken' : List ℕ) (r : Turn) → state p' w' status' taken' r ≡ step atBinary64 stored crossing op past here
         → take (r .waiting) queue' ≡ relined p' w' (t .used) (r .used) (length queue) (take (t .waiting - 1) queue) → r .waiting ≤ length queue' → length queue' ≡ length queue → Queues p' w' queue' r
     unfolding step stepBy isBefore
     step-at p' w' queue' status' taken' r is line' within long =
-        let same : there ≡ state p' w' status' taken' r = sym (is ∙ ap (stepBy binary64 stored crossing op past here) n) in
-        let x = subst (λ (z : State Pool). Lined binary64 stored z (relined (z .store) (z .waits) (t .used) (z .used) (length queue) (take (t .waiting - 1) queue))) same lined-there in
+        let same : there ≡ state p' w' status' taken' r = sym (is ∙ ap (stepBy atBinary64 stored crossing op past here) n) in
+        let x = subst (λ (z : State Pool). Lined atBinary64 stored z (relined (z .store) (z .waits) (t .used) (z .used) (length queue) (take (t .waiting - 1) queue))) same lined-there in
         let size = ap (λ (z : State Pool). stored .size (z .store)) (sym same) ∙ same-size in
         let room = q .room in
         let few = q .few in
         record {
-          lined = subst (Lined binary64 stored (state p' w' [] [] r)) (sym line') (record { good = x .good; queued = x .queued; fresh = x .fresh });
+          lined = subst (Lined atBinary64 stored (state p' w' [] [] r)) (sym line') (record { good = x .good; queued = x .queued; fresh = x .fresh });
           within = within;
           room = omega arith;
           few = omega arith;
@@ -130,7 +130,7 @@ ended-at q = let h = q .lined in record { lined = record { good = h .good; queue
 -- ---- at the start
 
 module _ (p : Pool) (n : ℕ) (taken : List ℕ) (h : accept p n taken ≡ Passed) where
-  lined-first : (room m : ℕ) → stored .size p ≤ room → let w = replicate (stored .size p) true in Lined binary64 stored (state p w [] [] (linedTurn (startTurn n) m)) (relined p w 0 n room [])
+  lined-first : (room m : ℕ) → stored .size p ≤ room → let w = replicate (stored .size p) true in Lined atBinary64 stored (state p w [] [] (linedTurn (startTurn n) m)) (relined p w 0 n room [])
   unfolding start startTurn linedTurn isBefore beforeUsed
   lined-first room m fits =
       let x = lined-start move-laws pool-stored pool-blanks p n room (good-accepted p n taken h) fits in
@@ -141,5 +141,5 @@ module _ (p : Pool) (n : ℕ) (taken : List ℕ) (h : accept p n taken ≡ Passe
       → take m queue' ≡ relined p w 0 n (length queue) (take 0 queue) → m ≤ length queue' → length queue' ≡ length queue → (stored .size p ≤ length queue) × (length queue ≤ maxEvents) → Queues p w queue' r
   unfolding linedTurn
   start-at queue queue' w m r all is told within same fits =
-      let x = subst (λ v. Lined binary64 stored (state p v [] [] (linedTurn (startTurn n) m)) (relined p v 0 n (length queue) [])) (sym all) (lined-first (length queue) m (fits .0)) in
+      let x = subst (λ v. Lined atBinary64 stored (state p v [] [] (linedTurn (startTurn n) m)) (relined p v 0 n (length queue) [])) (sym all) (lined-first (length queue) m (fits .0)) in
       rw is (record { lined = rw told x; within = within; room = omega (arith, same, fits .0); few = omega (arith, same, fits .1) })

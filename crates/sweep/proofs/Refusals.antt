@@ -9,7 +9,7 @@ use lib.ListN.{length}
 use lib.Dec.{eqb, ltb}
 use Rattle.refusals.specs.declared.Refusal.{Refusal}
 use Rattle.events.specs.Coordinates.{Coordinates, Crossing}
-use Rattle.events.specs.Binary64.{binary64, inMode}
+use Rattle.events.specs.Binary64.{atBinary64, inMode}
 use Rattle.events.specs.Pool.{Pool, rowAt, stored}
 use Rattle.events.specs.Store.{Store, look}
 use Rattle.class.specs.declared.Operation.{Operation}
@@ -83,7 +83,7 @@ module _ (op : Operation) (mode : ℕ) (p : Pool) (n : ℕ) (lent : List ℕ) wh
   unfolding accept
   given-by x e =
       ⊎-elim (λ h. inl (sizes-by _ _ _ _ x h))
-      (λ h. inr (⊎-elim (λ k. inl (ap (λ (y : Refusal). y .number) (k .tells))) (λ k. inr (ap (λ (y : Refusal). y .number) (k .1 .tells))) (checked-refused binary64 (rowAt p) n (numbersFrom 0 n) x (h .1))))
+      (λ h. inr (⊎-elim (λ k. inl (ap (λ (y : Refusal). y .number) (k .tells))) (λ k. inr (ap (λ (y : Refusal). y .number) (k .1 .tells))) (checked-refused atBinary64 (rowAt p) n (numbersFrom 0 n) x (h .1))))
       (either-refused (sizes (length (p .points)) (length (p .marks)) (length lent) n) _ x e)
 
   pub told-by : (x : Refusal) → subdividePool op mode p n lent .answer .outcome ≡ Refused x → Known x
@@ -96,5 +96,5 @@ module _ (op : Operation) (mode : ℕ) (p : Pool) (n : ℕ) (lent : List ℕ) wh
       stop (Stops.Refused r) h e = let z : r ≡ x = cc in rw z at h
 
       go : (y : Check) → accept p n lent ≡ y → afterChecks y op mode p n lent .answer .outcome ≡ Refused x → Known x
-      go Passed h e = inr (stop (subdivide binary64 stored (inMode mode) op p n .stop) (sweep-by binary64 stored (inMode mode) op p n) e)
+      go Passed h e = inr (stop (subdivide atBinary64 stored (inMode mode) op p n .stop) (sweep-by atBinary64 stored (inMode mode) op p n) e)
       go (Struck r) h e = let z : r ≡ x = cc in inl (given-by x (rw z at h))

@@ -10,7 +10,7 @@ use lib.Seq.{take-suc-set, drop-set-lt, drop-drop}
 use Rattle.numbers.specs.declared.Coordinate.{Coordinate}
 use Rattle.events.specs.declared.Link.{Link}
 use Rattle.events.specs.declared.Link.the-variants.{None, To}
-use Rattle.events.specs.Binary64.{binary64}
+use Rattle.events.specs.Binary64.{atBinary64}
 use Rattle.events.specs.Coordinates.{Coordinates, Crossing}
 use Rattle.events.specs.Pool.{Pool, stored}
 use Rattle.events.specs.Store.{Store}
@@ -29,16 +29,16 @@ use Rattle.sweep.proofs.AtBinary64.{relined}
 
 -- ---- one step
 
-module _ (crossing : Crossing Coordinate) (p : Pool) (w : List Bool) (status taken : List ℕ) (t : Turn) (op : Operation) (past : Coordinate → Bool) (n : Link) (is : n ≡ next binary64 stored (state p w (take (t .members) status) (take (t .count) taken) t)) where
+module _ (crossing : Crossing Coordinate) (p : Pool) (w : List Bool) (status taken : List ℕ) (t : Turn) (op : Operation) (past : Coordinate → Bool) (n : Link) (is : n ≡ next atBinary64 stored (state p w (take (t .members) status) (take (t .count) taken) t)) where
   pub step-none : (r : Turn) → n ≡ None → r ≡ endedTurn t
-      → state p w (take (r .members) status) (take (r .count) taken) r ≡ step binary64 stored crossing op past (state p w (take (t .members) status) (take (t .count) taken) t)
+      → state p w (take (r .members) status) (take (r .count) taken) r ≡ step atBinary64 stored crossing op past (state p w (take (t .members) status) (take (t .count) taken) t)
   unfolding step stepBy halt endedTurn
   step-none r h hr = rw (hr, ← is, h)
 
-  pub step-some : (e : ℕ) (rival : Bool) (u r : Turn) (p' : Pool) (w' : List Bool) (l' taken' : List ℕ) → n ≡ To e → rival ≡ isTied binary64 stored (state p w (take (t .members) status) (take (t .count) taken) t) e → t .count < length taken
+  pub step-some : (e : ℕ) (rival : Bool) (u r : Turn) (p' : Pool) (w' : List Bool) (l' taken' : List ℕ) → n ≡ To e → rival ≡ isTied atBinary64 stored (state p w (take (t .members) status) (take (t .count) taken) t) e → t .count < length taken
       → u ≡ takenTurn t rival → w' ≡ set w e false → taken' ≡ set taken (t .count) e
-      → Does (λ z. turn binary64 stored crossing op past z e) p (take (u .members) status) u p' l' r → Worked u r
-      → state p' w' l' (take (r .count) taken') r ≡ step binary64 stored crossing op past (state p w (take (t .members) status) (take (t .count) taken) t)
+      → Does (λ z. turn atBinary64 stored crossing op past z e) p (take (u .members) status) u p' l' r → Worked u r
+      → state p' w' l' (take (r .count) taken') r ≡ step atBinary64 stored crossing op past (state p w (take (t .members) status) (take (t .count) taken) t)
   unfolding step stepBy takes takenTurn
   step-some e rival u r p' w' l' taken' h hr room hu hw ht d k =
       let more : take (t .count + 1) (set taken (t .count) e) ≡ take (t .count) taken ++ (e ∷ []) = rw add-one (take-suc-set taken (t .count) e room) in

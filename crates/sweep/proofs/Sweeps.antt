@@ -13,7 +13,7 @@ use lib.Seq.{sets, length-take-le}
 use Rattle.lists.proofs.Fronts.{sets-front}
 use Rattle.refusals.specs.declared.Refusal.{Refusal}
 use Rattle.numbers.specs.declared.Coordinate.{Coordinate}
-use Rattle.events.specs.Binary64.{binary64, inMode}
+use Rattle.events.specs.Binary64.{atBinary64, inMode}
 use Rattle.events.specs.Coordinates.{Crossing}
 use Rattle.events.specs.Pool.{Pool, size, rowAt, stored}
 use Rattle.events.proofs.Stored.{pool-stored}
@@ -120,20 +120,20 @@ unfolding startTurn linedTurn
 none-yet n waiting t l h = rw h (refl, refl)
 
 -- the run from there: p, l, k and so on, the pool, the status and the events taken, before it and, with a mark, after it
-module _ (crossing : Crossing Coordinate) (p : Pool) (n loaded waiting : ℕ) (op : Operation) (w : List Bool) (l k : List ℕ) (t r : Turn) (subject clip : Option Coordinate) (p' : Pool) (w' : List Bool) (l' k' : List ℕ) (places : n ≡ stored .size p) (hs : subject ≡ rightmost binary64 (rowAt p) true loaded) (hc : clip ≡ rightmost binary64 (rowAt p) false loaded) (hw : w ≡ replicate n true) (hl : l ≡ []) (hk : k ≡ []) (ht : t ≡ linedTurn (startTurn loaded) waiting) (hr : state p' w' l' k' r ≡ run binary64 stored crossing op (isPast binary64 op subject clip) (n + 1) (state p w l k t)) where
-  swept-state : state p' w' l' k' r ≡ subdivide binary64 stored crossing op p loaded
+module _ (crossing : Crossing Coordinate) (p : Pool) (n loaded waiting : ℕ) (op : Operation) (w : List Bool) (l k : List ℕ) (t r : Turn) (subject clip : Option Coordinate) (p' : Pool) (w' : List Bool) (l' k' : List ℕ) (places : n ≡ stored .size p) (hs : subject ≡ rightmost atBinary64 (rowAt p) true loaded) (hc : clip ≡ rightmost atBinary64 (rowAt p) false loaded) (hw : w ≡ replicate n true) (hl : l ≡ []) (hk : k ≡ []) (ht : t ≡ linedTurn (startTurn loaded) waiting) (hr : state p' w' l' k' r ≡ run atBinary64 stored crossing op (isPast atBinary64 op subject clip) (n + 1) (state p w l k t)) where
+  swept-state : state p' w' l' k' r ≡ subdivide atBinary64 stored crossing op p loaded
   unfolding subdivide start past startTurn linedTurn stored
   swept-state = hr ∙ rw (ht, hw, hl, hk, hs, hc, places, add-one)
 
   -- the places in use do not become fewer
   pub not-fewer : loaded ≤ r .used
   not-fewer =
-      let more = counted binary64 stored pool-stored crossing op p loaded .grows .used in
+      let more = counted atBinary64 stored pool-stored crossing op p loaded .grows .used in
       let same = ap (λ (z : State Pool). z .used) swept-state in
       omega (arith, more, same)
 
   pub swept-is : (o : Outcome) (status' taken taken' : List ℕ) → k' ≡ take (r .count) taken' → o ≡ outcomeOf (r .stop) → Fits w' status' taken' r → Beyond taken taken' t r → length taken' ≡ length taken
-      → after (record { taken = r .count; divisions = (r .used - loaded) / 2; used = r .used; tied = r .tied; outcome = o }) p' taken' ≡ afterRun (subdivide binary64 stored crossing op p loaded) loaded taken
+      → after (record { taken = r .count; divisions = (r .used - loaded) / 2; used = r .used; tied = r .tied; outcome = o }) p' taken' ≡ afterRun (subdivide atBinary64 stored crossing op p loaded) loaded taken
   unfolding afterRun answerOf divisions
   swept-is o status' taken taken' hk' ho fits beyond same =
       let within : r .count ≤ length taken' = omega (arith, fits .counted) in
@@ -148,6 +148,6 @@ module _ (op : Operation) (mode : ℕ) (p : Pool) (n : ℕ) (taken : List ℕ) (
   unfolding subdividePool afterChecks
   refused-is r h = rw (← is, h)
 
-  pub passed-is : (y : After) → x ≡ Passed → y ≡ afterRun (subdivide binary64 stored (inMode mode) op p n) n taken → y ≡ subdividePool op mode p n taken
+  pub passed-is : (y : After) → x ≡ Passed → y ≡ afterRun (subdivide atBinary64 stored (inMode mode) op p n) n taken → y ≡ subdividePool op mode p n taken
   unfolding subdividePool afterChecks
   passed-is y h e = rw (← is, h) e

@@ -16,7 +16,7 @@ use Rattle.lists.proofs.Slots.{slot-within}
 use Rattle.lists.proofs.Members.{members-inserted, members-removed}
 use Rattle.events.specs.declared.Link.{Link}
 use Rattle.events.specs.declared.Link.the-variants.{None}
-use Rattle.events.specs.Binary64.{binary64}
+use Rattle.events.specs.Binary64.{atBinary64}
 use Rattle.events.specs.Coordinates.{Crossing}
 use Rattle.events.specs.Event.{Event}
 use Rattle.events.specs.Pool.{Pool, stored}
@@ -58,9 +58,9 @@ members-in status n k e h r =
     rw add-one (members-inserted status n k e (omega arith) r)
 
 pub enter-does : (crossing : Crossing Coordinate) (s s' : Pool) (status status' : List ℕ) (t r : Turn) (op : Operation) (e k n : ℕ) (lower upper lowest : Link) (x : Met) → t .members < length status
-    → k ≡ slot (isBelow binary64 stored crossing s (t .used) e) (take (t .members) status) → lower ≡ below (take (t .members) status) k → upper ≡ member (take (t .members) status) k → lowest ≡ below (take (t .members) status) (k - 1)
-    → meeting s' n x ≡ between binary64 stored op crossing s (t .used) e lower upper lowest → status' ≡ inserted status (t .members) k e → r ≡ metTurn t (t .members + 1) n x
-    → Does (λ z. enter binary64 stored crossing op z e) s (take (t .members) status) t s' (take (r .members) status') r
+    → k ≡ slot (isBelow atBinary64 stored crossing s (t .used) e) (take (t .members) status) → lower ≡ below (take (t .members) status) k → upper ≡ member (take (t .members) status) k → lowest ≡ below (take (t .members) status) (k - 1)
+    → meeting s' n x ≡ between atBinary64 stored op crossing s (t .used) e lower upper lowest → status' ≡ inserted status (t .members) k e → r ≡ metTurn t (t .members + 1) n x
+    → Does (λ z. enter atBinary64 stored crossing op z e) s (take (t .members) status) t s' (take (r .members) status') r
 unfolding enter meets ranked metTurn
 enter-does crossing s s' status status' t r op e k n lower upper lowest x room hk hl hu hb hm hs hr =
     record {
@@ -70,41 +70,41 @@ enter-does crossing s s' status status' t r op e k n lower upper lowest x room h
 
 -- ---- a segment leaves
 
-module _ (crossing : Crossing Coordinate) (s s' : Pool) (status : List ℕ) (t r : Turn) (k n : ℕ) (lower upper : Link) (x : Met) (hl : lower ≡ below (take (t .members) status) k) (hu : upper ≡ member (take (t .members) status) (k + 1)) (hm : meeting s' n x ≡ closeUp binary64 stored crossing s (t .used) lower upper) where
+module _ (crossing : Crossing Coordinate) (s s' : Pool) (status : List ℕ) (t r : Turn) (k n : ℕ) (lower upper : Link) (x : Met) (hl : lower ≡ below (take (t .members) status) k) (hu : upper ≡ member (take (t .members) status) (k + 1)) (hm : meeting s' n x ≡ closeUp atBinary64 stored crossing s (t .used) lower upper) where
   pub leave-refused : (q : Refusal) → x ≡ Refused q → r ≡ metTurn t (t .members) n x
-      → Does (λ z. leaveAt binary64 stored crossing z k) s (take (t .members) status) t s' (take (r .members) status) r
+      → Does (λ z. leaveAt atBinary64 stored crossing z k) s (take (t .members) status) t s' (take (r .members) status) r
   unfolding leaveAt andThen goOn meets metTurn stopBy
   leave-refused q h hr = record { is = λ waits taken. rw (hr, ← hl, ← rw add-one at hu, ← hm, h) }
 
   pub leave-done : (code : ℕ) (status' : List ℕ) → k < t .members → t .members ≤ length status → x ≡ Code code → status' ≡ removed status (t .members) k → r ≡ metTurn t (t .members - 1) n x
-      → Does (λ z. leaveAt binary64 stored crossing z k) s (take (t .members) status) t s' (take (r .members) status') r
+      → Does (λ z. leaveAt atBinary64 stored crossing z k) s (take (t .members) status) t s' (take (r .members) status') r
   unfolding leaveAt andThen goOn meets ranked metTurn stopBy
   leave-done code status' there fit h hs hr =
       record { is = λ waits taken. rw (hr, hs, members-removed status (t .members) k there fit, ← hl, ← rw add-one at hu, ← hm, h) }
 
 module _ (crossing : Crossing Coordinate) (s : Pool) (status : List ℕ) (t : Turn) (o k : ℕ) (fit : t .members ≤ length status) (hk : k ≡ slot (λ x. eqb x o) (take (t .members) status)) where
-  pub leaves : (s' : Pool) (l' : List ℕ) (r : Turn) → k < t .members → Does (λ z. leaveAt binary64 stored crossing z k) s (take (t .members) status) t s' l' r
-      → Does (λ z. leave binary64 stored crossing z o) s (take (t .members) status) t s' l' r
+  pub leaves : (s' : Pool) (l' : List ℕ) (r : Turn) → k < t .members → Does (λ z. leaveAt atBinary64 stored crossing z k) s (take (t .members) status) t s' l' r
+      → Does (λ z. leave atBinary64 stored crossing z o) s (take (t .members) status) t s' l' r
   unfolding leave
   leaves s' l' r h d = record { is = λ waits taken. rw (← hk, length-take-le (t .members) status fit, lt-ltb k (t .members) h) (d .is waits taken) }
 
-  pub not-member : t .members ≤ k → Does (λ z. leave binary64 stored crossing z o) s (take (t .members) status) t s (take (t .members) status) t
+  pub not-member : t .members ≤ k → Does (λ z. leave atBinary64 stored crossing z o) s (take (t .members) status) t s (take (t .members) status) t
   unfolding leave
   not-member h = record { is = λ waits taken. rw (← hk, length-take-le (t .members) status fit, le-ltb k (t .members) h) }
 
 -- ---- either, or the end
 
 module _ (crossing : Crossing Coordinate) (s : Pool) (status : List ℕ) (t : Turn) (op : Operation) (past : Coordinate → Bool) (e : ℕ) (f : Event Coordinate) (b : Bool) (hf : f ≡ look stored s (t .used) e) (hb : b ≡ past (f .point)) where
-  pub turn-ended : (r : Turn) → b ≡ true → r ≡ endedTurn t → Does (λ z. turn binary64 stored crossing op past z e) s (take (t .members) status) t s (take (r .members) status) r
+  pub turn-ended : (r : Turn) → b ≡ true → r ≡ endedTurn t → Does (λ z. turn atBinary64 stored crossing op past z e) s (take (t .members) status) t s (take (r .members) status) r
   unfolding turn halt endedTurn
   turn-ended r h hr = record { is = λ waits taken. rw (hr, ← hf, ← hb, h) }
 
-  pub turn-enters : (s' : Pool) (l' : List ℕ) (r : Turn) → b ≡ false → f .left ≡ true → Does (λ z. enter binary64 stored crossing op z e) s (take (t .members) status) t s' l' r
-      → Does (λ z. turn binary64 stored crossing op past z e) s (take (t .members) status) t s' l' r
+  pub turn-enters : (s' : Pool) (l' : List ℕ) (r : Turn) → b ≡ false → f .left ≡ true → Does (λ z. enter atBinary64 stored crossing op z e) s (take (t .members) status) t s' l' r
+      → Does (λ z. turn atBinary64 stored crossing op past z e) s (take (t .members) status) t s' l' r
   unfolding turn
   turn-enters s' l' r h k d = record { is = λ waits taken. rw (← hf, ← hb, h, k) (d .is waits taken) }
 
-  pub turn-leaves : (s' : Pool) (l' : List ℕ) (r : Turn) → b ≡ false → f .left ≡ false → Does (λ z. leave binary64 stored crossing z (f .partner)) s (take (t .members) status) t s' l' r
-      → Does (λ z. turn binary64 stored crossing op past z e) s (take (t .members) status) t s' l' r
+  pub turn-leaves : (s' : Pool) (l' : List ℕ) (r : Turn) → b ≡ false → f .left ≡ false → Does (λ z. leave atBinary64 stored crossing z (f .partner)) s (take (t .members) status) t s' l' r
+      → Does (λ z. turn atBinary64 stored crossing op past z e) s (take (t .members) status) t s' l' r
   unfolding turn
   turn-leaves s' l' r h k d = record { is = λ waits taken. rw (← hf, ← hb, h, k) (d .is waits taken) }

@@ -6,7 +6,7 @@ use lib.ListN.{length}
 use lib.Seq.{sets}
 use lib.Dec.{eqb, ltb}
 use Rattle.refusals.specs.declared.Refusal.{Refusal}
-use Rattle.events.specs.Binary64.{binary64, inMode}
+use Rattle.events.specs.Binary64.{atBinary64, inMode}
 use Rattle.events.specs.Pool.{Pool, rowAt, stored}
 use Rattle.class.specs.declared.Operation.{Operation}
 use Rattle.checks.specs.declared.Check.{Check}
@@ -37,7 +37,7 @@ sizes points marks taken loaded =
 
 unfoldable pub accept : Pool → ℕ → List ℕ → Check
 accept p n taken =
-    andThen (sizes (length (p .points)) (length (p .marks)) (length taken) n) (checked binary64 (rowAt p) n (numbersFrom 0 n))
+    andThen (sizes (length (p .points)) (length (p .marks)) (length taken) n) (checked atBinary64 (rowAt p) n (numbersFrom 0 n))
 
 unfoldable pub outcomeOf : D.Stop → Outcome
 outcomeOf Stops.Going = Done
@@ -58,7 +58,7 @@ asLent r p n lent =
     record { answer = record { taken = 0; divisions = 0; used = n; tied = false; outcome = Refused r }; pool = p; taken = lent }
 
 unfoldable pub afterChecks : Check → Operation → (mode : ℕ) → Pool → ℕ → List ℕ → After
-afterChecks Passed op mode p n lent = afterRun (subdivide binary64 stored (inMode mode) op p n) n lent
+afterChecks Passed op mode p n lent = afterRun (subdivide atBinary64 stored (inMode mode) op p n) n lent
 afterChecks (Struck r) op mode p n lent = asLent r p n lent
 
 unfoldable pub subdividePool : Operation → (mode : ℕ) → Pool → ℕ → List ℕ → After

@@ -4,7 +4,7 @@ use mathlib.Core.List.{List, [], _∷_}
 use mathlib.Core.Path.{_≡_}
 use Prim.Native.Nat.{ℕ, zero, suc, _+_, _≤_}
 use lib.ListN.{length, take, drop, replicate}
-use Rattle.events.specs.Binary64.{binary64}
+use Rattle.events.specs.Binary64.{atBinary64}
 use Rattle.events.specs.Pool.{Pool, stored}
 use Rattle.checks.specs.Checks.{maxEvents}
 use Rattle.neighbours.specs.declared.Met.{Met}
@@ -62,7 +62,7 @@ pub record Fits (waits : List Bool) (status taken : List ℕ) (t : Turn) : Type 
 
 -- The queue stands in the first places of its array, which has one for every place of the pool and no more than a pool can have.
 pub record Queues (p : Pool) (waits : List Bool) (queue : List ℕ) (t : Turn) : Type 0 where
-  pub lined : Lined binary64 stored (state p waits [] [] t) (take (t .waiting) queue)
+  pub lined : Lined atBinary64 stored (state p waits [] [] t) (take (t .waiting) queue)
   pub within : t .waiting ≤ length queue
   pub room : stored .size p ≤ length queue
   pub few : length queue ≤ maxEvents

@@ -1,7 +1,7 @@
 // Early stop: how far each layer reaches.
 ghost use mathlib.Core.Path.{_≡_};
 ghost use mathlib.Core.Bool.{Bool, cond, Bool·beq};
-ghost use Rattle.events.specs.Binary64.{binary64};
+ghost use Rattle.events.specs.Binary64.{atBinary64};
 ghost use Rattle.events.specs.Pool.{pool, rowAt};
 ghost use Rattle.sweep.specs.Bounds.{reachOf, isRightOf, isPast};
 ghost use Rattle.sweep.specs.Bounds as Spec;
@@ -23,7 +23,7 @@ pub struct Bounds {
 
 // The one with the larger x.
 fn farther(reach: Reach, p: Coordinate) -> Reach
-    ensures { λ r. ⌜ reachOf r ≡ Spec.farther binary64 (reachOf reach) p ⌝ }
+    ensures { λ r. ⌜ reachOf r ≡ Spec.farther atBinary64 (reachOf reach) p ⌝ }
 {
     match reach {
         Reach::Empty => Reach::To(p),
@@ -44,7 +44,7 @@ fn reach_with(
     reach: Reach,
     r: u32,
 ) -> Reach
-    ensures { λ x. ⌜ reachOf x ≡ cond (Bool·beq (rowAt (pool (now (points .entry)) (now (marks .entry))) r .subject) subject) (Spec.farther binary64 (reachOf reach) (rowAt (pool (now (points .entry)) (now (marks .entry))) r .point)) (reachOf reach) ⌝ }
+    ensures { λ x. ⌜ reachOf x ≡ cond (Bool·beq (rowAt (pool (now (points .entry)) (now (marks .entry))) r .subject) subject) (Spec.farther atBinary64 (reachOf reach) (rowAt (pool (now (points .entry)) (now (marks .entry))) r .point)) (reachOf reach) ⌝ }
 {
     let e = read_event(points, marks, r);
     if e.subject == subject {
@@ -56,7 +56,7 @@ fn reach_with(
 
 // Of one layer's loaded records.
 fn rightmost(points: &[[f64; 2]], marks: &[[u32; 12]], loaded: u32, subject: bool) -> Reach
-    ensures { λ x. ⌜ reachOf x ≡ Spec.rightmost binary64 (rowAt (pool (now (points .entry)) (now (marks .entry)))) subject loaded ⌝ }
+    ensures { λ x. ⌜ reachOf x ≡ Spec.rightmost atBinary64 (rowAt (pool (now (points .entry)) (now (marks .entry)))) subject loaded ⌝ }
 {
     let mut reach = Reach::Empty;
     let mut r = 0;
@@ -68,8 +68,8 @@ fn rightmost(points: &[[f64; 2]], marks: &[[u32; 12]], loaded: u32, subject: boo
 }
 
 pub fn bounds_of(points: &[[f64; 2]], marks: &[[u32; 12]], loaded: u32) -> Bounds
-    ensures { λ x. ⌜ reachOf (x .subject) ≡ Spec.rightmost binary64 (rowAt (pool (now (points .entry)) (now (marks .entry)))) Bool.true loaded ⌝ }
-    ensures { λ x. ⌜ reachOf (x .clip) ≡ Spec.rightmost binary64 (rowAt (pool (now (points .entry)) (now (marks .entry)))) Bool.false loaded ⌝ }
+    ensures { λ x. ⌜ reachOf (x .subject) ≡ Spec.rightmost atBinary64 (rowAt (pool (now (points .entry)) (now (marks .entry)))) Bool.true loaded ⌝ }
+    ensures { λ x. ⌜ reachOf (x .clip) ≡ Spec.rightmost atBinary64 (rowAt (pool (now (points .entry)) (now (marks .entry)))) Bool.false loaded ⌝ }
 {
     Bounds {
         subject: rightmost(points, marks, loaded, true),
@@ -79,7 +79,7 @@ pub fn bounds_of(points: &[[f64; 2]], marks: &[[u32; 12]], loaded: u32) -> Bound
 
 // An empty layer's largest x is below every number.
 fn is_right_of(reach: Reach, p: Coordinate) -> bool
-    ensures { λ r. ⌜ r ≡ isRightOf binary64 (reachOf reach) p ⌝ }
+    ensures { λ r. ⌜ r ≡ isRightOf atBinary64 (reachOf reach) p ⌝ }
 {
     match reach {
         Reach::Empty => true,
@@ -89,7 +89,7 @@ fn is_right_of(reach: Reach, p: Coordinate) -> bool
 
 // No event from here on matters to the operation.
 pub fn is_past(bounds: Bounds, operation: Operation, p: Coordinate) -> bool
-    ensures { λ r. ⌜ r ≡ isPast binary64 operation (reachOf (bounds .subject)) (reachOf (bounds .clip)) p ⌝ }
+    ensures { λ r. ⌜ r ≡ isPast atBinary64 operation (reachOf (bounds .subject)) (reachOf (bounds .clip)) p ⌝ }
 {
     let subject = bounds.subject;
     let clip = bounds.clip;

@@ -2,7 +2,7 @@
 ghost use mathlib.Core.Path.{_≡_};
 ghost use Prim.Native.Nat.{_-_, _<_, _≤_};
 ghost use lib.ListN.{length, take};
-ghost use Rattle.events.specs.Binary64.{binary64, inMode};
+ghost use Rattle.events.specs.Binary64.{atBinary64, inMode};
 ghost use Rattle.events.specs.Pool.{pool, stored};
 ghost use Rattle.status.specs.Status.{below};
 ghost use Rattle.checks.specs.Checks.{maxEvents};
@@ -48,7 +48,7 @@ fn enter(
     mode: u32,
 ) -> Turn
     requires { ⌜ (t .members < length (now status)) × (length (now status) ≤ maxEvents) ⌝ }
-    ensures { λ r. ⌜ Does (λ s. Spec.enter binary64 stored (inMode mode) operation s e) (pool (now (points .entry)) (now (marks .entry))) (take (t .members) (now (status .entry))) t (pool (now (points .exit)) (now (marks .exit))) (take (r .members) (now (status .exit))) r ⌝ }
+    ensures { λ r. ⌜ Does (λ s. Spec.enter atBinary64 stored (inMode mode) operation s e) (pool (now (points .entry)) (now (marks .entry))) (take (t .members) (now (status .entry))) t (pool (now (points .exit)) (now (marks .exit))) (take (r .members) (now (status .exit))) r ⌝ }
     ensures { λ r. ⌜ Worked t r ⌝ }
 {
     let n = t.members as usize;
@@ -81,7 +81,7 @@ fn leave_at(
     mode: u32,
 ) -> Turn
     requires { ⌜ (k < t .members) × (t .members ≤ length (now status)) ⌝ }
-    ensures { λ r. ⌜ Does (λ s. Spec.leaveAt binary64 stored (inMode mode) s k) (pool (now (points .entry)) (now (marks .entry))) (take (t .members) (now (status .entry))) t (pool (now (points .exit)) (now (marks .exit))) (take (r .members) (now (status .exit))) r ⌝ }
+    ensures { λ r. ⌜ Does (λ s. Spec.leaveAt atBinary64 stored (inMode mode) s k) (pool (now (points .entry)) (now (marks .entry))) (take (t .members) (now (status .entry))) t (pool (now (points .exit)) (now (marks .exit))) (take (r .members) (now (status .exit))) r ⌝ }
     ensures { λ r. ⌜ Worked t r ⌝ }
 {
     let n = t.members as usize;
@@ -108,7 +108,7 @@ fn leave(
     mode: u32,
 ) -> Turn
     requires { ⌜ t .members ≤ length (now status) ⌝ }
-    ensures { λ r. ⌜ Does (λ s. Spec.leave binary64 stored (inMode mode) s o) (pool (now (points .entry)) (now (marks .entry))) (take (t .members) (now (status .entry))) t (pool (now (points .exit)) (now (marks .exit))) (take (r .members) (now (status .exit))) r ⌝ }
+    ensures { λ r. ⌜ Does (λ s. Spec.leave atBinary64 stored (inMode mode) s o) (pool (now (points .entry)) (now (marks .entry))) (take (t .members) (now (status .entry))) t (pool (now (points .exit)) (now (marks .exit))) (take (r .members) (now (status .exit))) r ⌝ }
     ensures { λ r. ⌜ Worked t r ⌝ }
 {
     let n = t.members as usize;
@@ -131,7 +131,7 @@ pub fn work(
     bounds: Bounds,
 ) -> Turn
     requires { ⌜ (t .members < length (now status)) × (length (now status) ≤ maxEvents) ⌝ }
-    ensures { λ r. ⌜ Does (λ s. Spec.turn binary64 stored (inMode mode) operation (isPast binary64 operation (reachOf (bounds .subject)) (reachOf (bounds .clip))) s e) (pool (now (points .entry)) (now (marks .entry))) (take (t .members) (now (status .entry))) t (pool (now (points .exit)) (now (marks .exit))) (take (r .members) (now (status .exit))) r ⌝ }
+    ensures { λ r. ⌜ Does (λ s. Spec.turn atBinary64 stored (inMode mode) operation (isPast atBinary64 operation (reachOf (bounds .subject)) (reachOf (bounds .clip))) s e) (pool (now (points .entry)) (now (marks .entry))) (take (t .members) (now (status .entry))) t (pool (now (points .exit)) (now (marks .exit))) (take (r .members) (now (status .exit))) r ⌝ }
     ensures { λ r. ⌜ Worked t r ⌝ }
 {
     let f = read_used(points, marks, t.used, e);

@@ -2,7 +2,7 @@
 ghost use mathlib.Core.Path.{_≡_};
 ghost use Prim.Native.Nat.{_≤_};
 ghost use lib.ListN.{length};
-ghost use Rattle.events.specs.Binary64.{binary64, inMode};
+ghost use Rattle.events.specs.Binary64.{atBinary64, inMode};
 ghost use Rattle.events.specs.Pool.{pool, stored};
 ghost use Rattle.checks.specs.declared.Check.the-variants.{Passed};
 ghost use Rattle.checks.specs.Checks.{maxEvents, fewEvents};
@@ -103,7 +103,7 @@ fn sweep_in(
     status: &mut [u32],
 ) -> Swept
     requires { ⌜ (accept (pool (now points) (now marks)) loaded (now taken) ≡ Passed) × Lends (length (now points)) (now waits) (now queue) (now status) ⌝ }
-    ensures { λ r. ⌜ after r (pool (now (points .exit)) (now (marks .exit))) (now (taken .exit)) ≡ afterRun (Spec.subdivide binary64 stored (inMode mode) operation (pool (now (points .entry)) (now (marks .entry))) loaded) loaded (now (taken .entry)) ⌝ }
+    ensures { λ r. ⌜ after r (pool (now (points .exit)) (now (marks .exit))) (now (taken .exit)) ≡ afterRun (Spec.subdivide atBinary64 stored (inMode mode) operation (pool (now (points .entry)) (now (marks .entry))) loaded) loaded (now (taken .entry)) ⌝ }
 {
     let size = points.len();
     let bounds = bounds_of(points, marks, loaded);
@@ -141,7 +141,7 @@ fn sweep_few(
     taken: &mut [u32],
 ) -> Swept
     requires { ⌜ (accept (pool (now points) (now marks)) loaded (now taken) ≡ Passed) × (length (now points) ≤ fewEvents) ⌝ }
-    ensures { λ r. ⌜ after r (pool (now (points .exit)) (now (marks .exit))) (now (taken .exit)) ≡ afterRun (Spec.subdivide binary64 stored (inMode mode) operation (pool (now (points .entry)) (now (marks .entry))) loaded) loaded (now (taken .entry)) ⌝ }
+    ensures { λ r. ⌜ after r (pool (now (points .exit)) (now (marks .exit))) (now (taken .exit)) ≡ afterRun (Spec.subdivide atBinary64 stored (inMode mode) operation (pool (now (points .entry)) (now (marks .entry))) loaded) loaded (now (taken .entry)) ⌝ }
 {
     let mut waits = [true; FEW];
     let mut queue = [0u32; FEW];
@@ -169,7 +169,7 @@ fn sweep_many(
     taken: &mut [u32],
 ) -> Swept
     requires { ⌜ (accept (pool (now points) (now marks)) loaded (now taken) ≡ Passed) × (length (now points) ≤ maxEvents) ⌝ }
-    ensures { λ r. ⌜ after r (pool (now (points .exit)) (now (marks .exit))) (now (taken .exit)) ≡ afterRun (Spec.subdivide binary64 stored (inMode mode) operation (pool (now (points .entry)) (now (marks .entry))) loaded) loaded (now (taken .entry)) ⌝ }
+    ensures { λ r. ⌜ after r (pool (now (points .exit)) (now (marks .exit))) (now (taken .exit)) ≡ afterRun (Spec.subdivide atBinary64 stored (inMode mode) operation (pool (now (points .entry)) (now (marks .entry))) loaded) loaded (now (taken .entry)) ⌝ }
 {
     let mut waits = [true; MAX_EVENTS];
     let mut queue = [0u32; MAX_EVENTS];
@@ -197,7 +197,7 @@ fn sweep(
     taken: &mut [u32],
 ) -> Swept
     requires { ⌜ accept (pool (now points) (now marks)) loaded (now taken) ≡ Passed ⌝ }
-    ensures { λ r. ⌜ after r (pool (now (points .exit)) (now (marks .exit))) (now (taken .exit)) ≡ afterRun (Spec.subdivide binary64 stored (inMode mode) operation (pool (now (points .entry)) (now (marks .entry))) loaded) loaded (now (taken .entry)) ⌝ }
+    ensures { λ r. ⌜ after r (pool (now (points .exit)) (now (marks .exit))) (now (taken .exit)) ≡ afterRun (Spec.subdivide atBinary64 stored (inMode mode) operation (pool (now (points .entry)) (now (marks .entry))) loaded) loaded (now (taken .entry)) ⌝ }
 {
     if points.len() <= FEW {
         return sweep_few(points, marks, loaded, operation, mode, taken);

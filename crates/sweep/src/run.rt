@@ -3,7 +3,7 @@ ghost use mathlib.Core.Path.{_≡_};
 ghost use mathlib.Core.Bool.{Bool};
 ghost use Prim.Native.Nat.{_<_, _≤_};
 ghost use lib.ListN.{length, set, take};
-ghost use Rattle.events.specs.Binary64.{binary64, inMode};
+ghost use Rattle.events.specs.Binary64.{atBinary64, inMode};
 ghost use Rattle.events.specs.Pool.{pool, stored};
 ghost use Rattle.checks.specs.Checks.{maxEvents};
 ghost use Rattle.sweep.specs.Bounds.{reachOf, isPast};
@@ -50,7 +50,7 @@ fn step(
     bounds: Bounds,
 ) -> Turn
     requires { ⌜ Fits (now waits) (now status) (now taken) t × Queues (pool (now points) (now marks)) (now waits) (now queue) t ⌝ }
-    ensures { λ r. ⌜ state (pool (now (points .exit)) (now (marks .exit))) (now (waits .exit)) (take (r .members) (now (status .exit))) (take (r .count) (now (taken .exit))) r ≡ Spec.step binary64 stored (inMode mode) operation (isPast binary64 operation (reachOf (bounds .subject)) (reachOf (bounds .clip))) (state (pool (now (points .entry)) (now (marks .entry))) (now (waits .entry)) (take (t .members) (now (status .entry))) (take (t .count) (now (taken .entry))) t) ⌝ }
+    ensures { λ r. ⌜ state (pool (now (points .exit)) (now (marks .exit))) (now (waits .exit)) (take (r .members) (now (status .exit))) (take (r .count) (now (taken .exit))) r ≡ Spec.step atBinary64 stored (inMode mode) operation (isPast atBinary64 operation (reachOf (bounds .subject)) (reachOf (bounds .clip))) (state (pool (now (points .entry)) (now (marks .entry))) (now (waits .entry)) (take (t .members) (now (status .entry))) (take (t .count) (now (taken .entry))) t) ⌝ }
     ensures { λ r. ⌜ Fits (now (waits .exit)) (now (status .exit)) (now (taken .exit)) r × Beyond (now (taken .entry)) (now (taken .exit)) t r ⌝ }
     ensures { λ r. ⌜ Queues (pool (now (points .exit)) (now (marks .exit))) (now (waits .exit)) (now (queue .exit)) r ⌝ }
 {
@@ -82,7 +82,7 @@ pub fn run(
     steps: usize,
 ) -> Turn
     requires { ⌜ Fits (now waits) (now status) (now taken) t × Queues (pool (now points) (now marks)) (now waits) (now queue) t ⌝ }
-    ensures { λ r. ⌜ state (pool (now (points .exit)) (now (marks .exit))) (now (waits .exit)) (take (r .members) (now (status .exit))) (take (r .count) (now (taken .exit))) r ≡ Spec.run binary64 stored (inMode mode) operation (isPast binary64 operation (reachOf (bounds .subject)) (reachOf (bounds .clip))) steps (state (pool (now (points .entry)) (now (marks .entry))) (now (waits .entry)) (take (t .members) (now (status .entry))) (take (t .count) (now (taken .entry))) t) ⌝ }
+    ensures { λ r. ⌜ state (pool (now (points .exit)) (now (marks .exit))) (now (waits .exit)) (take (r .members) (now (status .exit))) (take (r .count) (now (taken .exit))) r ≡ Spec.run atBinary64 stored (inMode mode) operation (isPast atBinary64 operation (reachOf (bounds .subject)) (reachOf (bounds .clip))) steps (state (pool (now (points .entry)) (now (marks .entry))) (now (waits .entry)) (take (t .members) (now (status .entry))) (take (t .count) (now (taken .entry))) t) ⌝ }
     ensures { λ r. ⌜ Fits (now (waits .exit)) (now (status .exit)) (now (taken .exit)) r × Beyond (now (taken .entry)) (now (taken .exit)) t r ⌝ }
     ensures { λ r. ⌜ Queues (pool (now (points .exit)) (now (marks .exit))) (now (waits .exit)) (now (queue .exit)) r ⌝ }
 {

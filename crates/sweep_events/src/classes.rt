@@ -1,6 +1,6 @@
 // Edge class of the records in use, from the lower neighbour.
 ghost use mathlib.Core.Path.{_≡_};
-ghost use Rattle.events.specs.Binary64.{binary64};
+ghost use Rattle.events.specs.Binary64.{atBinary64};
 ghost use Rattle.events.specs.Pool.{pool, stored};
 ghost use Rattle.class.specs.Class.{shownNeighbour, shownLower};
 ghost use Rattle.neighbours.specs.Neighbours.{meeting};
@@ -17,7 +17,7 @@ use neighbours::Neighbours;
 
 // Vertical: the partner's x is its own, by value.
 fn neighbour_used(points: &[[f64; 2]], marks: &[[u32; 12]], used: u32, number: u32) -> Neighbour
-    ensures { λ r. ⌜ shownNeighbour r ≡ neighbourIn binary64 stored (pool (now (points .entry)) (now (marks .entry))) used number ⌝ }
+    ensures { λ r. ⌜ shownNeighbour r ≡ neighbourIn atBinary64 stored (pool (now (points .entry)) (now (marks .entry))) used number ⌝ }
 {
     let event = read_used(points, marks, used, number);
     let partner = read_used(points, marks, used, event.partner);
@@ -29,7 +29,7 @@ fn neighbour_used(points: &[[f64; 2]], marks: &[[u32; 12]], used: u32, number: u
 }
 
 fn lower_used(points: &[[f64; 2]], marks: &[[u32; 12]], used: u32, lower: Link) -> Lower
-    ensures { λ r. ⌜ shownLower r ≡ lowerIn binary64 stored (pool (now (points .entry)) (now (marks .entry))) used lower ⌝ }
+    ensures { λ r. ⌜ shownLower r ≡ lowerIn atBinary64 stored (pool (now (points .entry)) (now (marks .entry))) used lower ⌝ }
 {
     match lower {
         Link::None => Lower::None,
@@ -46,7 +46,7 @@ pub fn classify(
     lower: Link,
     operation: Operation,
 )
-    ensures { λ _. ⌜ pool (now (points .exit)) (now (marks .exit)) ≡ classified binary64 stored operation (pool (now (points .entry)) (now (marks .entry))) used e lower ⌝ }
+    ensures { λ _. ⌜ pool (now (points .exit)) (now (marks .exit)) ≡ classified atBinary64 stored operation (pool (now (points .entry)) (now (marks .entry))) used e lower ⌝ }
 {
     let event = read_used(points, marks, used, e);
     let neighbour = lower_used(points, marks, used, lower);
@@ -78,7 +78,7 @@ pub fn reclass(
     b: u32,
     operation: Operation,
 ) -> Neighbours
-    ensures { λ r. ⌜ meeting (pool (now (points .exit)) (now (marks .exit))) (r .used) (r .met) ≡ reclassed binary64 stored operation (meeting (pool (now (points .entry)) (now (marks .entry))) (last .used) (last .met)) a lower b ⌝ }
+    ensures { λ r. ⌜ meeting (pool (now (points .exit)) (now (marks .exit))) (r .used) (r .met) ≡ reclassed atBinary64 stored operation (meeting (pool (now (points .entry)) (now (marks .entry))) (last .used) (last .met)) a lower b ⌝ }
 {
     let met = last.met;
     if is_two(met) {

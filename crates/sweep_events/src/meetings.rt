@@ -1,6 +1,6 @@
 // New neighbours in the status meet.
 ghost use mathlib.Core.Path.{_≡_};
-ghost use Rattle.events.specs.Binary64.{binary64, inMode};
+ghost use Rattle.events.specs.Binary64.{atBinary64, inMode};
 ghost use Rattle.events.specs.Pool.{pool, stored};
 ghost use Rattle.neighbours.specs.declared.Met.the-variants.{Code};
 ghost use Rattle.neighbours.specs.Neighbours.{meeting};
@@ -35,7 +35,7 @@ fn with_upper(
     operation: Operation,
     mode: u32,
 ) -> Neighbours
-    ensures { λ r. ⌜ meeting (pool (now (points .exit)) (now (marks .exit))) (r .used) (r .met) ≡ withUpper binary64 stored operation (inMode mode) (pool (now (points .entry)) (now (marks .entry))) used e lower upper ⌝ }
+    ensures { λ r. ⌜ meeting (pool (now (points .exit)) (now (marks .exit))) (r .used) (r .met) ≡ withUpper atBinary64 stored operation (inMode mode) (pool (now (points .entry)) (now (marks .entry))) used e lower upper ⌝ }
 {
     match upper {
         Link::None => alone(used),
@@ -57,7 +57,7 @@ fn with_lower(
     operation: Operation,
     mode: u32,
 ) -> Neighbours
-    ensures { λ r. ⌜ meeting (pool (now (points .exit)) (now (marks .exit))) (r .used) (r .met) ≡ withLower binary64 stored operation (inMode mode) (pool (now (points .entry)) (now (marks .entry))) used e lower lowest ⌝ }
+    ensures { λ r. ⌜ meeting (pool (now (points .exit)) (now (marks .exit))) (r .used) (r .met) ≡ withLower atBinary64 stored operation (inMode mode) (pool (now (points .entry)) (now (marks .entry))) used e lower lowest ⌝ }
 {
     match lower {
         Link::None => alone(used),
@@ -80,7 +80,7 @@ pub fn between(
     operation: Operation,
     mode: u32,
 ) -> Neighbours
-    ensures { λ r. ⌜ meeting (pool (now (points .exit)) (now (marks .exit))) (r .used) (r .met) ≡ Spec.between binary64 stored operation (inMode mode) (pool (now (points .entry)) (now (marks .entry))) used e lower upper lowest ⌝ }
+    ensures { λ r. ⌜ meeting (pool (now (points .exit)) (now (marks .exit))) (r .used) (r .met) ≡ Spec.between atBinary64 stored operation (inMode mode) (pool (now (points .entry)) (now (marks .entry))) used e lower upper lowest ⌝ }
 {
     classify(points, marks, used, e, lower, operation);
     let m = with_upper(points, marks, used, e, lower, upper, operation, mode);
@@ -100,7 +100,7 @@ pub fn close_up(
     upper: Link,
     mode: u32,
 ) -> Neighbours
-    ensures { λ r. ⌜ meeting (pool (now (points .exit)) (now (marks .exit))) (r .used) (r .met) ≡ Spec.closeUp binary64 stored (inMode mode) (pool (now (points .entry)) (now (marks .entry))) used lower upper ⌝ }
+    ensures { λ r. ⌜ meeting (pool (now (points .exit)) (now (marks .exit))) (r .used) (r .met) ≡ Spec.closeUp atBinary64 stored (inMode mode) (pool (now (points .entry)) (now (marks .entry))) used lower upper ⌝ }
 {
     match lower {
         Link::None => alone(used),

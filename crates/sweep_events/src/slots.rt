@@ -3,7 +3,7 @@ ghost use mathlib.Core.Path.{_≡_};
 ghost use mathlib.Core.Bool.{Bool, cond};
 ghost use lib.Dec.{eqb};
 ghost use lib.ListN.{take};
-ghost use Rattle.events.specs.Binary64.{binary64, inMode};
+ghost use Rattle.events.specs.Binary64.{atBinary64, inMode};
 ghost use Rattle.events.specs.Pool.{pool, stored};
 ghost use Rattle.order.specs.Keys.{shownKey, keyUsed};
 ghost use Rattle.segments.specs.Segments.{compareSegments};
@@ -38,7 +38,7 @@ fn goes_below(
     x: u32,
     mode: u32,
 ) -> bool
-    ensures { λ r. ⌜ r ≡ cond (eqb e x) Bool.false (isLess (compareSegments binary64 (inMode mode) (shownKey key) (keyUsed stored (pool (now (points .entry)) (now (marks .entry))) used x))) ⌝ }
+    ensures { λ r. ⌜ r ≡ cond (eqb e x) Bool.false (isLess (compareSegments atBinary64 (inMode mode) (shownKey key) (keyUsed stored (pool (now (points .entry)) (now (marks .entry))) used x))) ⌝ }
 {
     if e == x {
         return false;
@@ -56,7 +56,7 @@ pub fn slot_below(
     e: u32,
     mode: u32,
 ) -> usize
-    ensures { λ r. ⌜ r ≡ slot (isBelow binary64 stored (inMode mode) (pool (now (points .entry)) (now (marks .entry))) used e) (take n (now (status .entry))) ⌝ }
+    ensures { λ r. ⌜ r ≡ slot (isBelow atBinary64 stored (inMode mode) (pool (now (points .entry)) (now (marks .entry))) used e) (take n (now (status .entry))) ⌝ }
 {
     let key = key_used(points, marks, used, e);
     let low = lower_of(key.point.y, key.mate.y);

@@ -10,7 +10,7 @@ use lib.Ieee.{Float}
 use borrow.Author.Tests.{eq-eqb, le-ltb}
 use Rattle.refusals.specs.declared.Refusal.{Refusal}
 use Rattle.numbers.specs.declared.Coordinate.{Coordinate}
-use Rattle.events.specs.Binary64.{binary64, inMode}
+use Rattle.events.specs.Binary64.{atBinary64, inMode}
 use Rattle.events.specs.Pool.{Pool, size, rowAt, stored}
 use Rattle.events.proofs.Stored.{pool-stored}
 use Rattle.events.proofs.Looks.{pool-blanks}
@@ -64,7 +64,7 @@ module _ (ends : List (List Float)) (labels : List (List ℕ)) (p : Pool) where
   tells n h = did (Loading.accept ends labels p) l p n h
 
   module _ (h : Loading.accept ends labels p ≡ Passed) where
-    loads : load ends labels p ≡ record { answer = Done (2 * length l); pool = loaded binary64 stored p 0 l }
+    loads : load ends labels p ≡ record { answer = Done (2 * length l); pool = loaded atBinary64 stored p 0 l }
     unfolding load Loading.afterChecks
     loads = ap (λ c. Loading.afterChecks c l p) h
 
@@ -88,21 +88,21 @@ module _ (ends : List (List Float)) (labels : List (List ℕ)) (p : Pool) where
         let enough = fits in
         omega arith
 
-    good : Good binary64 stored (loaded binary64 stored p 0 l) (2 * length l)
+    good : Good atBinary64 stored (loaded atBinary64 stored p 0 l) (2 * length l)
     unfolding stored
-    good = good-loaded binary64 pool-stored pool-blanks move-laws p l room (accepted ends labels p h .each)
+    good = good-loaded atBinary64 pool-stored pool-blanks move-laws p l room (accepted ends labels p h .each)
 
     -- the sweep's checks pass
     sizes-pass : (points marks taken n : ℕ) → Sized points marks → taken ≡ points → n ≤ points → sizes points marks taken n ≡ Passed
     unfolding sizes missized
     sizes-pass points marks taken n s e k = rw (eq-eqb points marks (s .equal), le-ltb maxEvents points (s .few), eq-eqb points taken (sym e), le-ltb points n k)
 
-    sound-records : checked binary64 (rowAt (loaded binary64 stored p 0 l)) (2 * length l) (numbersFrom 0 (2 * length l)) ≡ Passed
+    sound-records : checked atBinary64 (rowAt (loaded atBinary64 stored p 0 l)) (2 * length l) (numbersFrom 0 (2 * length l)) ≡ Passed
     sound-records =
-        subst (λ (a : Loading.After). checked binary64 (rowAt (a .pool)) (2 * length l) (numbersFrom 0 (2 * length l)) ≡ Passed) loads
+        subst (λ (a : Loading.After). checked atBinary64 (rowAt (a .pool)) (2 * length l) (numbersFrom 0 (2 * length l)) ≡ Passed) loads
         (as-loaded ends labels p (2 * length l) (ap (λ (a : Loading.After). a .answer) loads))
 
-    accepts : (taken : List ℕ) → length taken ≡ length (p .points) → accept (loaded binary64 stored p 0 l) (2 * length l) taken ≡ Passed
+    accepts : (taken : List ℕ) → length taken ≡ length (p .points) → accept (loaded atBinary64 stored p 0 l) (2 * length l) taken ≡ Passed
     unfolding accept andThen
     accepts taken e =
         rw (points-loaded p 0 l, marks-loaded p 0 l, sizes-pass (length (p .points)) (length (p .marks)) (length taken) (2 * length l) (accepted ends labels p h .sizes) e fits) sound-records
@@ -111,7 +111,7 @@ module _ (ends : List (List Float)) (labels : List (List ℕ)) (p : Pool) where
 
 -- both parts of the sentence, of pools that hold n records
 record Both (op : Operation) (mode n : ℕ) (p : Pool) (taken : List ℕ) (p′ : Pool) (taken′ : List ℕ) : Type 0 where
-  runs : OnlyNumbers binary64 stored (inMode mode) op n p p′
+  runs : OnlyNumbers atBinary64 stored (inMode mode) op n p p′
   calls : SameAfter (runs .renaming .to) p taken (subdividePool op mode p n taken) p′ taken′ (subdividePool op mode p′ n taken′)
 
 module _ (op : Operation) (mode : ℕ) (ends : List (List Float)) (labels : List (List ℕ)) (p : Pool) (taken : List ℕ)
@@ -123,10 +123,10 @@ module _ (op : Operation) (mode : ℕ) (ends : List (List Float)) (labels : List
   l₂ = edgesOf ends′ labels′
 
   abbrev q₁ : Pool
-  q₁ = loaded binary64 stored p 0 l₁
+  q₁ = loaded atBinary64 stored p 0 l₁
 
   abbrev q₂ : Pool
-  q₂ = loaded binary64 stored p′ 0 l₂
+  q₂ = loaded atBinary64 stored p′ 0 l₂
 
   as-many-records : 2 * length l₂ ≡ 2 * length l₁
   as-many-records = ap (λ k. 2 * k) (Permuted.as-many (o .edges))
@@ -140,13 +140,13 @@ module _ (op : Operation) (mode : ℕ) (ends : List (List Float)) (labels : List
     accepted-too : Loading.accept ends′ labels′ p′ ≡ Passed
     unfolding Loading.accept andThen
     accepted-too =
-        rw (o .as-many-ends, o .as-many-labels, s .points, s .marks, sized ends labels p h, roomy ends labels p h) (any-order binary64 (o .edges) (accepted ends labels p h .each))
+        rw (o .as-many-ends, o .as-many-labels, s .points, s .marks, sized ends labels p h, roomy ends labels p h) (any-order atBinary64 (o .edges) (accepted ends labels p h .each))
 
-    run-tied : subdividePool op mode q₁ (2 * length l₁) taken .answer .tied ≡ subdivide binary64 stored (inMode mode) op q₁ (2 * length l₁) .tied
+    run-tied : subdividePool op mode q₁ (2 * length l₁) taken .answer .tied ≡ subdivide atBinary64 stored (inMode mode) op q₁ (2 * length l₁) .tied
     unfolding afterRun answerOf
     run-tied = ap (λ (a : After). a .answer .tied) (called op mode (2 * length l₁) q₁ taken (accepts ends labels p h taken (s .takes)))
 
-    both : subdivide binary64 stored (inMode mode) op q₁ (2 * length l₁) .tied ≡ false → Both op mode (2 * length l₁) q₁ taken q₂ taken′
+    both : subdivide atBinary64 stored (inMode mode) op q₁ (2 * length l₁) .tied ≡ false → Both op mode (2 * length l₁) q₁ taken q₂ taken′
     unfolding stored
     both u =
         let runs = order-free move-laws pool-stored pool-blanks (inMode mode) op (o .edges) p p′ same-size (room ends labels p h) (accepted ends labels p h .each) u in
@@ -156,23 +156,23 @@ module _ (op : Operation) (mode : ℕ) (ends : List (List Float)) (labels : List
               same-calls op mode (2 * length l₁) (runs .renaming .to) q₁ q₂ taken taken′ (accepts ends labels p h taken (s .takes))
               (subst (λ n. accept q₂ n taken′ ≡ Passed) as-many-records (accepts ends′ labels′ p′ accepted-too taken′ (s .takes′)))
               (good ends labels p h)
-              (subst (Good binary64 stored q₂) as-many-records (good ends′ labels′ p′ accepted-too))
+              (subst (Good atBinary64 stored q₂) as-many-records (good ends′ labels′ p′ accepted-too))
               (runs .at-last);
         }
 
   -- the same of n and of pools that are these
   module _ (n : ℕ) (q q′ : Pool) (k : n ≡ 2 * length l₁) (e : q ≡ q₁) where
-    both-at : q′ ≡ q₂ → Loading.accept ends labels p ≡ Passed → subdivide binary64 stored (inMode mode) op q n .tied ≡ false → Both op mode n q taken q′ taken′
+    both-at : q′ ≡ q₂ → Loading.accept ends labels p ≡ Passed → subdivide atBinary64 stored (inMode mode) op q n .tied ≡ false → Both op mode n q taken q′ taken′
     both-at e′ h u = rw (k, e, e′) (both h (rw (k, e) at u))
 
-    told-at : Loading.accept ends labels p ≡ Passed → subdividePool op mode q n taken .answer .tied ≡ subdivide binary64 stored (inMode mode) op q n .tied
+    told-at : Loading.accept ends labels p ≡ Passed → subdividePool op mode q n taken .answer .tied ≡ subdivide atBinary64 stored (inMode mode) op q n .tied
     told-at h = rw (k, e) (run-tied h)
 
   module _ (n : ℕ) (h : load ends labels p .answer ≡ Done n) where
     abbrev pool : Pool
     pool = load ends labels p .pool
 
-    by-run : subdivide binary64 stored (inMode mode) op pool n .tied ≡ false → OrderFreeCalls op mode n ends labels p taken ends′ labels′ p′ taken′
+    by-run : subdivide atBinary64 stored (inMode mode) op pool n .tied ≡ false → OrderFreeCalls op mode n ends labels p taken ends′ labels′ p′ taken′
     by-run u =
         let a = tells ends labels p n h in
         let first = loads ends labels p (a .passed) in
@@ -188,5 +188,5 @@ module _ (op : Operation) (mode : ℕ) (ends : List (List Float)) (labels : List
         by-run (sym (told-at n pool pool (a .records) (ap (λ (b : Loading.After). b .pool) first) (a .passed)) ∙ u)
 
     -- 01's sentence
-    pub sentence : NeverTie binary64 stored (inMode mode) op pool n → OrderFreeCalls op mode n ends labels p taken ends′ labels′ p′ taken′
+    pub sentence : NeverTie atBinary64 stored (inMode mode) op pool n → OrderFreeCalls op mode n ends labels p taken ends′ labels′ p′ taken′
     sentence t = by-run (never-tie (inMode mode) op pool n t)

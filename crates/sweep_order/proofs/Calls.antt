@@ -4,7 +4,7 @@ use mathlib.Core.List.{List, []}
 use Prim.Native.Nat.{ℕ, suc, _-_, _/_}
 use lib.ListN.{length, getD, length-map}
 use lib.Seq.{sets}
-use Rattle.events.specs.Binary64.{binary64, inMode}
+use Rattle.events.specs.Binary64.{atBinary64, inMode}
 use Rattle.events.specs.Pool.{Pool, size, stored}
 use Rattle.events.proofs.Stored.{pool-stored}
 use Rattle.events.proofs.Looks.{pool-blanks}
@@ -25,7 +25,7 @@ use Rattle.sweep_order.proofs.Unused.{unused}
 
 -- ---- places that are not in use
 
-rest-as-lent : (op : Operation) (mode : ℕ) (p : Pool) (n : ℕ) → Good binary64 stored p n → AsLent (subdivide binary64 stored (inMode mode) op p n .used) p (subdivide binary64 stored (inMode mode) op p n .store)
+rest-as-lent : (op : Operation) (mode : ℕ) (p : Pool) (n : ℕ) → Good atBinary64 stored p n → AsLent (subdivide atBinary64 stored (inMode mode) op p n .used) p (subdivide atBinary64 stored (inMode mode) op p n .store)
 unfolding subdivide after
 rest-as-lent op mode p n g =
     record {
@@ -59,13 +59,13 @@ module _ (ρ : ℕ → ℕ) (n : ℕ) (s s′ : State Pool) (b : SameBut stored 
 -- ---- the calls, where the checks pass
 
 module _ (op : Operation) (mode n : ℕ) where
-  pub called : (p : Pool) (lent : List ℕ) → accept p n lent ≡ Passed → subdividePool op mode p n lent ≡ afterRun (subdivide binary64 stored (inMode mode) op p n) n lent
+  pub called : (p : Pool) (lent : List ℕ) → accept p n lent ≡ Passed → subdividePool op mode p n lent ≡ afterRun (subdivide atBinary64 stored (inMode mode) op p n) n lent
   unfolding subdividePool afterChecks
   called p lent h = ap (λ c. afterChecks c op mode p n lent) h
 
-  pub same-calls : (ρ : ℕ → ℕ) (p p′ : Pool) (lent lent′ : List ℕ) → accept p n lent ≡ Passed → accept p′ n lent′ ≡ Passed → Good binary64 stored p n → Good binary64 stored p′ n
-      → SameBut stored ρ (subdivide binary64 stored (inMode mode) op p n) (subdivide binary64 stored (inMode mode) op p′ n) → SameAfter ρ p lent (subdividePool op mode p n lent) p′ lent′ (subdividePool op mode p′ n lent′)
+  pub same-calls : (ρ : ℕ → ℕ) (p p′ : Pool) (lent lent′ : List ℕ) → accept p n lent ≡ Passed → accept p′ n lent′ ≡ Passed → Good atBinary64 stored p n → Good atBinary64 stored p′ n
+      → SameBut stored ρ (subdivide atBinary64 stored (inMode mode) op p n) (subdivide atBinary64 stored (inMode mode) op p′ n) → SameAfter ρ p lent (subdividePool op mode p n lent) p′ lent′ (subdividePool op mode p′ n lent′)
   same-calls ρ p p′ lent lent′ h h′ g g′ b =
       let x = same-after ρ n _ _ b p p′ lent lent′ (rest-as-lent op mode p n g) (rest-as-lent op mode p′ n g′) in
       subst (λ (a′ : After). SameAfter ρ p lent (subdividePool op mode p n lent) p′ lent′ a′) (sym (called p′ lent′ h′))
-      (subst (λ (a : After). SameAfter ρ p lent a p′ lent′ (afterRun (subdivide binary64 stored (inMode mode) op p′ n) n lent′)) (sym (called p lent h)) x)
+      (subst (λ (a : After). SameAfter ρ p lent a p′ lent′ (afterRun (subdivide atBinary64 stored (inMode mode) op p′ n) n lent′)) (sym (called p lent h)) x)

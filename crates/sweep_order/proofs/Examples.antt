@@ -6,7 +6,7 @@ use native.Mathlib.Omega.{arith}
 use lib.ListN.{replicate}
 use lib.Ieee as I
 use Rattle.numbers.specs.declared.Coordinate.{Coordinate}
-use Rattle.events.specs.Binary64.{binary64, inMode}
+use Rattle.events.specs.Binary64.{atBinary64, inMode}
 use Rattle.events.specs.Pool.{Pool, pool, stored, rowAt}
 use Rattle.events.proofs.Stored.{pool-stored}
 use Rattle.class.specs.declared.Operation.the-variants.{Union}
@@ -60,8 +60,8 @@ lent = pool (replicate 8 (zero ∷ zero ∷ [])) (replicate 8 (replicate 12 0))
 
 -- The union of two edges, swept; all that an example computes with is named here, once.
 swept : Edge Coordinate → Edge Coordinate → State Pool
-unfolding N.unfit N.unsigned Pt.isAhead Pt.unsignedPoint Mo.endsInOrder Mo.comesFirst Mo.inOrder Mo.unsignedSegment Mo.orderedPair Mo.namedIn X.size X.negative O.signOf O.signedArea Bx.boxFrom Bx.sharedBox Bx.clamp Bx.constrainedTo Bx.orLost Li.minus Li.crossingAt Li.sharedFrom Li.along Li.intersectionImpl Cr.inBox Cr.intersectionOf Cr.intersectionOfPair Cr.intersectionIn Co.same Co.ahead Ev.hasTransition Ev.key St.look P.size P.flagNumber P.linkOf P.thereNumber P.linkNumber P.edgeTypeOf P.edgeTypeNumber P.transitionOf P.transitionNumber P.eventOf P.pointOf P.marksOf P.sameLink P.over P.thereOver P.linkOver P.marksOver P.blank P.rowAt P.enter P.store P.stored B.binary64 B.crossOf B.inMode Or.byNumber Or.byEnd Or.byTurn Or.byLayer Or.before Or.isZero Ke.keyOf Ke.keyUsed Se.lessIf Se.lessIfInversed Se.isPositive Se.alongside Se.byCrossing Se.apart Se.oldBelow Se.compareSegments Cl.written Cl.inOutAbove Cl.otherInOutAbove Cl.belowAbove Cl.setFromLower Cl.normalInResult Cl.sameInResult Cl.differentInResult Cl.inResultAs Cl.holdsAbove Cl.direction Cl.transitionIn Cl.fields Di.moves Di.moved Di.misses Di.newEnd Di.linked Di.keeps Di.full Di.parted Di.refused Di.done Di.divideAt Di.divide Sp.stopOf Sp.goOn Sp.andThen Sp.cut Sp.cutUnless Sp.twice Ne.metBy Ne.ended Ne.typed Ne.typeBy Ne.atEnd Ne.crossed Ne.coincided Ne.leftShared Ne.laid Ne.overlapped Ne.meetBy Ne.meet Lo.end Lo.firstEnd Lo.secondEnd Lo.loadedEdge Lo.loaded Wa.choose Wa.first Wa.rivals Wa.rivalled Wa.flagged Ls.slot Ls.insertAt Ls.removeAt Ss.member Ss.below Sw.start Sw.halt Sw.ranked Sw.takes Sw.goOn Sw.andThen Sw.stopBy Sw.meets Bo.isPast Bo.past Ef.isTwo Ef.afterwards Ef.isLess Ef.neighbourIn Ef.lowerIn Ef.classified Ef.reclassed Ef.withUpper Ef.withLower Ef.between Ef.closeUp Ef.isBelow Tu.leaveAt Tu.leave Tu.enter Tu.turn Ru.isBefore Ru.next Ru.isTied Ru.stepBy Ru.step Ru.run Ru.subdivide I.lt I.le I.eq I.ne I.neg I.add I.sub I.mul I.div I.sum I.round I.units I.odd I.size I.climb I.span I.ofBits I.fits
-swept a b = subdivide binary64 stored (inMode ordered) Union (loaded binary64 stored lent 0 (a ∷ b ∷ [])) 4
+unfolding N.unfit N.unsigned Pt.isAhead Pt.unsignedPoint Mo.endsInOrder Mo.comesFirst Mo.inOrder Mo.unsignedSegment Mo.orderedPair Mo.namedIn X.size X.negative O.signOf O.signedArea Bx.boxFrom Bx.sharedBox Bx.clamp Bx.constrainedTo Bx.orLost Li.minus Li.crossingAt Li.sharedFrom Li.along Li.intersectionImpl Cr.inBox Cr.intersectionOf Cr.intersectionOfPair Cr.intersectionIn Co.same Co.ahead Ev.hasTransition Ev.key St.look P.size P.flagNumber P.linkOf P.thereNumber P.linkNumber P.edgeTypeOf P.edgeTypeNumber P.transitionOf P.transitionNumber P.eventOf P.pointOf P.marksOf P.sameLink P.over P.thereOver P.linkOver P.marksOver P.blank P.rowAt P.enter P.store P.stored B.atBinary64 B.crossOf B.inMode Or.byNumber Or.byEnd Or.byTurn Or.byLayer Or.before Or.isZero Ke.keyOf Ke.keyUsed Se.lessIf Se.lessIfInversed Se.isPositive Se.alongside Se.byCrossing Se.apart Se.oldBelow Se.compareSegments Cl.written Cl.inOutAbove Cl.otherInOutAbove Cl.belowAbove Cl.setFromLower Cl.normalInResult Cl.sameInResult Cl.differentInResult Cl.inResultAs Cl.holdsAbove Cl.direction Cl.transitionIn Cl.fields Di.moves Di.moved Di.misses Di.newEnd Di.linked Di.keeps Di.full Di.parted Di.refused Di.done Di.divideAt Di.divide Sp.stopOf Sp.goOn Sp.andThen Sp.cut Sp.cutUnless Sp.twice Ne.metBy Ne.ended Ne.typed Ne.typeBy Ne.atEnd Ne.crossed Ne.coincided Ne.leftShared Ne.laid Ne.overlapped Ne.meetBy Ne.meet Lo.end Lo.firstEnd Lo.secondEnd Lo.loadedEdge Lo.loaded Wa.choose Wa.first Wa.rivals Wa.rivalled Wa.flagged Ls.slot Ls.insertAt Ls.removeAt Ss.member Ss.below Sw.start Sw.halt Sw.ranked Sw.takes Sw.goOn Sw.andThen Sw.stopBy Sw.meets Bo.isPast Bo.past Ef.isTwo Ef.afterwards Ef.isLess Ef.neighbourIn Ef.lowerIn Ef.classified Ef.reclassed Ef.withUpper Ef.withLower Ef.between Ef.closeUp Ef.isBelow Tu.leaveAt Tu.leave Tu.enter Tu.turn Ru.isBefore Ru.next Ru.isTied Ru.stepBy Ru.step Ru.run Ru.subdivide I.lt I.le I.eq I.ne I.neg I.add I.sub I.mul I.div I.sum I.round I.units I.odd I.size I.climb I.span I.ofBits I.fits
+swept a b = subdivide atBinary64 stored (inMode ordered) Union (loaded atBinary64 stored lent 0 (a ∷ b ∷ [])) 4
 
 -- ---- two equal edges of one layer tie
 
@@ -93,11 +93,11 @@ unfit = edge true (at I.nan zero) (at one one)
 abbrev dot : Edge Coordinate
 dot = edge true (at one one) (at one one)
 
-unfit-first : checkedEdges binary64 0 (unfit ∷ dot ∷ []) ≡ Refused (record { number = 2; place = 0 })
+unfit-first : checkedEdges atBinary64 0 (unfit ∷ dot ∷ []) ≡ Refused (record { number = 2; place = 0 })
 unfolding swept checkedEdges checkedEdge andThen
 unfit-first = refl
 
-unfit-last : checkedEdges binary64 0 (dot ∷ unfit ∷ []) ≡ Refused (record { number = 3; place = 0 })
+unfit-last : checkedEdges atBinary64 0 (dot ∷ unfit ∷ []) ≡ Refused (record { number = 3; place = 0 })
 unfolding swept checkedEdges checkedEdge andThen
 unfit-last = refl
 
@@ -120,10 +120,10 @@ untied = refl
 exchanged : List·Permᴰ (rising ∷ falling ∷ []) (falling ∷ rising ∷ [])
 exchanged = List·Permᴰ·swap refl refl
 
-passes : checkedEdges binary64 0 (rising ∷ falling ∷ []) ≡ Passed
+passes : checkedEdges atBinary64 0 (rising ∷ falling ∷ []) ≡ Passed
 unfolding swept checkedEdges checkedEdge andThen
 passes = refl
 
-crossed : OrderFree binary64 stored (inMode ordered) Union (rising ∷ falling ∷ []) (falling ∷ rising ∷ []) lent lent
+crossed : OrderFree atBinary64 stored (inMode ordered) Union (rising ∷ falling ∷ []) (falling ∷ rising ∷ []) lent lent
 unfolding swept
 crossed = order-free move-laws pool-stored pool-blanks (inMode ordered) Union exchanged lent lent refl (omega arith) passes untied

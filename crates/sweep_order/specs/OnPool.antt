@@ -5,7 +5,7 @@ use Prim.Native.Nat.{ℕ, _<_, _≤_}
 use lib.ListN.{length, getD}
 use lib.Seq.{sets}
 use lib.Ieee.{Float}
-use Rattle.events.specs.Binary64.{binary64, inMode}
+use Rattle.events.specs.Binary64.{atBinary64, inMode}
 use Rattle.events.specs.Renaming.{rename}
 use Rattle.events.specs.Pool.{Pool, rowAt, stored}
 use Rattle.class.specs.declared.Operation.{Operation}
@@ -64,6 +64,6 @@ pub record SameAfter (ρ : ℕ → ℕ) (p : Pool) (lent : List ℕ) (a : After)
 pub record OrderFreeCalls (op : Operation) (mode n : ℕ) (ends : List (List Float)) (labels : List (List ℕ)) (p : Pool) (taken : List ℕ)
     (ends′ : List (List Float)) (labels′ : List (List ℕ)) (p′ : Pool) (taken′ : List ℕ) : Type 0 where
   pub loads : load ends′ labels′ p′ .answer ≡ Loaded n
-  pub runs : OnlyNumbers binary64 stored (inMode mode) op n (load ends labels p .pool) (load ends′ labels′ p′ .pool)
+  pub runs : OnlyNumbers atBinary64 stored (inMode mode) op n (load ends labels p .pool) (load ends′ labels′ p′ .pool)
   pub calls : SameAfter (runs .renaming .to) (load ends labels p .pool) taken (subdividePool op mode (load ends labels p .pool) n taken)
       (load ends′ labels′ p′ .pool) taken′ (subdividePool op mode (load ends′ labels′ p′ .pool) n taken′)

@@ -9,7 +9,7 @@ use lib.Seq.{length-take-le}
 use lib.Ieee.{Float}
 use borrow.Author.Tests.{eq-eqb, le-ltb}
 use Rattle.numbers.specs.declared.Coordinate.{Coordinate}
-use Rattle.events.specs.Binary64.{binary64, inMode}
+use Rattle.events.specs.Binary64.{atBinary64, inMode}
 use Rattle.events.specs.Pool.{Pool, size, rowAt, stored}
 use Rattle.events.proofs.Stored.{pool-stored}
 use Rattle.class.specs.declared.Operation.{Operation}
@@ -43,7 +43,7 @@ room-passes points marks edges e few room = rw (e, eq-eqb points points refl, le
 module _ (n : ℕ) (p : Pool) where
   after-loading : (c : Check) (edges : List (Edge Coordinate)) → Loads.afterChecks c edges (firstPlaces n p) ≡ firstOfLoaded n (Loads.afterChecks c edges p)
   unfolding Loads.afterChecks firstOfLoaded pool-front
-  after-loading Passed edges = ap (Loads.after _) (loaded-front binary64 (pool-front n) edges p 0)
+  after-loading Passed edges = ap (Loads.after _) (loaded-front atBinary64 (pool-front n) edges p 0)
   after-loading (Struck r) edges = refl
 
 pub load-room : (n : ℕ) (ends : List (List Float)) (labels : List (List ℕ)) (p : Pool)
@@ -81,7 +81,7 @@ module _ (op : Operation) (mode n : ℕ) (p : Pool) (k : ℕ) (taken : List ℕ)
       let large = sizes-pass (length (p .points)) (length (p .marks)) (length taken) k (a .marks) (a .takes) few (omega arith) in
       let small = sizes-pass n n n k refl refl (omega arith) in-first in
       rw (points-first n p wide, marks-first n p wide, length-take-le n taken (rw (a .takes) w), small, large)
-      (checked-alike binary64 (rowAt p) (rowAt (firstPlaces n p)) k (λ r l. row-first n p wide r (omega arith)))
+      (checked-alike atBinary64 (rowAt p) (rowAt (firstPlaces n p)) k (λ r l. row-first n p wide r (omega arith)))
 
   after-run : (s s′ : State Pool) → s′ ≡ frontState (pool-front n) s → afterRun s′ k (take n taken) ≡ firstOfSwept n (afterRun s k taken)
   unfolding afterRun answerOf divisions firstOfSwept frontState pool-front
@@ -93,7 +93,7 @@ module _ (op : Operation) (mode n : ℕ) (p : Pool) (k : ℕ) (taken : List ℕ)
       → afterChecks c op mode (firstPlaces n p) k (take n taken) ≡ firstOfSwept n (afterChecks c op mode p k taken)
   unfolding afterChecks afterRun answerOf asLent firstOfSwept pool-front stored
   after-first Passed h =
-      after-run _ _ (subdivide-front binary64 pool-stored (pool-front n) (inMode mode) op p k (record { wide = wide; fits = in-first }) (sym (stop-wants _) ∙ h))
+      after-run _ _ (subdivide-front atBinary64 pool-stored (pool-front n) (inMode mode) op p k (record { wide = wide; fits = in-first }) (sym (stop-wants _) ∙ h))
   after-first (Struck r) h = refl
 
 pub sweep-room : (op : Operation) (mode n : ℕ) (p : Pool) (k : ℕ) (taken : List ℕ) → Larger n p taken → k ≤ n

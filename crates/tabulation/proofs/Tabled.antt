@@ -10,7 +10,7 @@ use lib.ListN.{length, take, drop, length-append, length-map}
 use lib.Seq.{take-at}
 use Rattle.lists.proofs.Fronts.{sets-front}
 use Rattle.numbers.specs.declared.Coordinate.{Coordinate}
-use Rattle.events.specs.Binary64.{binary64}
+use Rattle.events.specs.Binary64.{atBinary64}
 use Rattle.events.specs.Pool.{Pool, rowAt}
 use Rattle.checks.specs.Checks.{maxEvents}
 use Rattle.contours.specs.Result.{ordered}
@@ -59,7 +59,7 @@ puts-laid rs t h k =
 
 pub size-table : (p : Pool) (l : List ℕ) → length (tableIn p l) ≡ length (orderedIn p l)
 unfolding tableIn table orderedIn
-size-table p l = length-map (ordered (rowAt p) binary64 l) (rowOf (rowAt p) (ordered (rowAt p) binary64 l))
+size-table p l = length-map (ordered (rowAt p) atBinary64 l) (rowOf (rowAt p) (ordered (rowAt p) atBinary64 l))
 
 rows-table : (p : Pool) (l : List ℕ) → rowsOf p (orderedIn p l) ≡ tableIn p l
 unfolding rowsOf tableIn table orderedIn

@@ -6,7 +6,7 @@ use lib.Dec.{leb, ltb}
 use lib.Ieee.{Float}
 use lib.ListN.{length}
 use Rattle.numbers.specs.declared.Coordinate.{Coordinate}
-use Rattle.events.specs.Binary64.{binary64}
+use Rattle.events.specs.Binary64.{atBinary64}
 use Rattle.events.specs.Pool.{Pool, rowAt}
 use Rattle.checks.specs.Checks.{maxEvents}
 use Rattle.contours.specs.Table.{Row, table}
@@ -24,7 +24,7 @@ abbrev pub tabulated : List ℕ → List ℕ → Rows → ℕ → Tabulated
 tabulated o q t n = record { order = o; places = q; rows = t; count = n }
 
 unfoldable pub tableIn : Pool → List ℕ → List (Row Coordinate)
-tableIn p list = table (rowAt p) binary64 list
+tableIn p list = table (rowAt p) atBinary64 list
 
 -- the numbers of a row
 unfoldable pub rowCode : Row Coordinate → List ℕ

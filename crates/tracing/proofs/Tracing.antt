@@ -12,7 +12,7 @@ use lib.Dec.{eqb, leb}
 use lib.Ieee.{Float}
 use Rattle.numbers.specs.declared.Coordinate.{Coordinate}
 use Rattle.events.specs.Coordinates.{same}
-use Rattle.events.specs.Binary64.{binary64}
+use Rattle.events.specs.Binary64.{atBinary64}
 use Rattle.checks.specs.Checks.{maxEvents}
 use Rattle.checks.specs.Numbers.{numbersFrom}
 use Rattle.contours.specs.Result.{keep}
@@ -39,10 +39,10 @@ use Rattle.tracing.specs.Parts.{joined, holed, tracedBy}
 
 module _ (t : Rows) (all : List Contour) where
   abbrev outs : ℕ → List Contour → List (Outline Coordinate)
-  outs c l = outlinesFrom (same binary64) (size t) (tableRow t) all c l
+  outs c l = outlinesFrom (same atBinary64) (size t) (tableRow t) all c l
 
   abbrev cornersBy : Contour → List Coordinate
-  cornersBy k = corners (same binary64) (size t) (tableRow t) (k .trail)
+  cornersBy k = corners (same atBinary64) (size t) (tableRow t) (k .trail)
 
   corners-long : (k : Contour) → length (cornersOf t (k .trail)) ≡ length (cornersBy k)
   unfolding cornersOf
@@ -69,7 +69,7 @@ module _ (t : Rows) (all : List Contour) where
       open-ones : List (Outline Coordinate)
       open-ones = keep (λ o. o .unclosed) (outs (suc c) l)
 
-      go : (b : Bool) → length kept ≡ length open-ones → length (cond b (k ∷ kept) kept) ≡ length (cond b (outline (same binary64) (size t) (tableRow t) all c k ∷ open-ones) open-ones)
+      go : (b : Bool) → length kept ≡ length open-ones → length (cond b (k ∷ kept) kept) ≡ length (cond b (outline (same atBinary64) (size t) (tableRow t) all c k ∷ open-ones) open-ones)
       go true h = ap suc h
       go false h = h
 
@@ -118,7 +118,7 @@ module _ (t : Rows) (ns : List (List ℕ)) (cs : List Contour) (room : length cs
 
     -- ---- the rows
 
-    row-is : (c e h : ℕ) (k : Contour) → nestIn N c ≡ nestOf t e k → contourRow N n c h ≡ rowIn e h (outline (same binary64) (size t) (tableRow t) cs c k)
+    row-is : (c e h : ℕ) (k : Contour) → nestIn N c ≡ nestOf t e k → contourRow N n c h ≡ rowIn e h (outline (same atBinary64) (size t) (tableRow t) cs c k)
     unfolding contourRow nestOf rowIn outline
     row-is c e h k f = rw (f, holes-at c, corners-long t cs k)
 
@@ -128,7 +128,7 @@ module _ (t : Rows) (ns : List (List ℕ)) (cs : List Contour) (room : length cs
     rows-are c e h (k ∷ l) f =
         let z : c + 0 ≡ c = omega arith in
         let f0 : nestIn N c ≡ nestOf t e k = rw z at (f 0 (omega arith)) in
-        let here : contourRow N n c h ≡ rowIn e h (outline (same binary64) (size t) (tableRow t) cs c k) = row-is c e h k f0 in
+        let here : contourRow N n c h ≡ rowIn e h (outline (same atBinary64) (size t) (tableRow t) cs c k) = row-is c e h k f0 in
         let next : contourRows N n (length l) (suc c) (h + length (holesAt N c n 0)) ≡ rowsIn (e + length (cornersOf t (k .trail))) (h + length (holesAt N c n 0)) (outs t cs (suc c) l) =
         rows-are (suc c) (e + length (cornersOf t (k .trail))) (h + length (holesAt N c n 0)) l (λ j i. let s : suc c + j ≡ c + suc j = omega arith in rw s (f (suc j) (omega arith)))
         in
@@ -144,7 +144,7 @@ tells s p a b c d = rw (a, b, c, d)
 
 module _ (t : Rows) (out : List (List Float)) (ks : List (List ℕ)) (hs : List ℕ) (ns : List (List ℕ)) where
   abbrev outsOf : List Contour → List (Outline Coordinate)
-  outsOf cs = outlines (same binary64) (size t) (tableRow t) cs
+  outsOf cs = outlines (same atBinary64) (size t) (tableRow t) cs
 
   holed-is : (ms : List ℕ) (cs : List Contour) (stop place : ℕ) → length cs ≤ maxEvents → length cs ≤ length ns
       → holed ks hs (sheetOf t out ns ms cs stop place) ≡ written out ks hs ms (outsOf cs) stop place
@@ -155,7 +155,7 @@ module _ (t : Rows) (out : List (List Float)) (ks : List (List ℕ)) (hs : List 
       (ap (sets out 0) (corners-are t cs 0 cs))
       (ap (sets ks 0) rows)
       (ap (sets hs 0) holes)
-      (tells stop place (sym (outline-count (same binary64) (size t) (tableRow t) cs cs 0)) (corners-count t cs 0 cs) ends (unclosed-are t cs 0 cs)))
+      (tells stop place (sym (outline-count (same atBinary64) (size t) (tableRow t) cs cs 0)) (corners-count t cs 0 cs) ends (unclosed-are t cs 0 cs)))
     where
       rows : contourRows (N t ns cs room) (length cs) (length cs) 0 0 ≡ rowsIn 0 0 (outs t cs 0 cs)
       rows = rows-are t ns cs room (length cs) refl 0 0 0 cs (λ j i. let z : 0 + j ≡ j = omega arith in rw z (nest-is t ns cs room j i))
@@ -167,10 +167,10 @@ module _ (t : Rows) (out : List (List Float)) (ks : List (List ℕ)) (hs : List 
       ends = omega (arith, ap length holes, holes-count t ns cs room (length cs) refl 0 cs)
 
   -- no contour without a position that starts it
-  few : Ends (size t) (λ i ms cs. length cs ≤ i) (trace (same binary64) (size t) (tableRow t))
+  few : Ends (size t) (λ i ms cs. length cs ≤ i) (trace (same atBinary64) (size t) (tableRow t))
   few =
-      trace-end (same binary64) (size t) (tableRow t) (λ i ms cs. length cs ≤ i) (λ i ms cs l h o. omega arith)
-      (λ i ms cs p d l h o. omega (arith, h, length-append cs (contour (trailAt (same binary64) (size t) (tableRow t) i (length cs) ms) p d ∷ []))) (omega arith)
+      trace-end (same atBinary64) (size t) (tableRow t) (λ i ms cs. length cs ≤ i) (λ i ms cs l h o. omega arith)
+      (λ i ms cs p d l h o. omega (arith, h, length-append cs (contour (trailAt (same atBinary64) (size t) (tableRow t) i (length cs) ms) p d ∷ []))) (omega arith)
 
   answered-is : size t ≤ maxEvents → size t ≤ length ns → (a : Answer) → Ends (size t) (λ i ms cs. length cs ≤ i) a → holed ks hs (answerOf t out ns a) ≡ answered (size t) (tableRow t) out ks hs a
   unfolding answerOf answered
@@ -187,7 +187,7 @@ module _ (t : Rows) (out : List (List Float)) (ks : List (List ℕ)) (hs : List 
   traced-is ms r = go (leb (size t) maxEvents) (eqb (length ms) (size t)) refl
     where
       A : Answer
-      A = trace (same binary64) (size t) (tableRow t)
+      A = trace (same atBinary64) (size t) (tableRow t)
 
       go : (a b : Bool) → leb (size t) maxEvents ≡ a
           → holed ks hs (cond (a && (b && leb (size t) (length ns))) (answerOf t out ns A) (S.sheet ms out ns (turnOf 0 0 0 0 0))) ≡ cond (a && b) (answered (size t) (tableRow t) out ks hs A) (sheet ms out ks hs (told 0 0 0 0 0 0))

@@ -9,7 +9,7 @@ use lib.Seq.{sets}
 use lib.Ieee.{Float}
 use Rattle.numbers.specs.declared.Coordinate.{Coordinate}
 use Rattle.events.specs.Coordinates.{same}
-use Rattle.events.specs.Binary64.{binary64}
+use Rattle.events.specs.Binary64.{atBinary64}
 use Rattle.checks.specs.Checks.{maxEvents}
 use Rattle.contours.specs.Table.{Row}
 use Rattle.contours.specs.Contours.{Answer, done, halted, trace}
@@ -61,11 +61,11 @@ written corners contours holes ms os stop place =
 -- of a table by its size and its rows, with the refusal's number and position, or 0
 module _ (n : ℕ) (row : ℕ → Row Coordinate) (corners : List (List Float)) (contours : List (List ℕ)) (holes : List ℕ) where
   unfoldable pub answered : Answer → Sheet
-  answered (done ms cs) = written corners contours holes ms (outlines (same binary64) n row cs) 0 0
-  answered (halted number i ms cs) = written corners contours holes ms (outlines (same binary64) n row cs) number i
+  answered (done ms cs) = written corners contours holes ms (outlines (same atBinary64) n row cs) 0 0
+  answered (halted number i ms cs) = written corners contours holes ms (outlines (same atBinary64) n row cs) number i
 
   unfoldable pub tracedAll : Sheet
-  tracedAll = answered (trace (same binary64) n row)
+  tracedAll = answered (trace (same atBinary64) n row)
 
 module _ (t : Rows) where
   -- not more rows than records, and as many marks as rows

@@ -5,7 +5,7 @@ use Prim.Native.Nat.{ℕ}
 use lib.Dec.{ltb}
 use lib.Ieee.{lt}
 use Rattle.numbers.proofs.OneWay.{one-way}
-use Rattle.events.specs.Binary64.{binary64}
+use Rattle.events.specs.Binary64.{atBinary64}
 use Rattle.events.specs.Event.{key}
 use Rattle.events.specs.Pool.{Pool, stored}
 use Rattle.events.specs.Store.{look}
@@ -17,11 +17,11 @@ use Rattle.waiting.specs.Queue.{leads, tiesWith}
 
 module _ (p : Pool) (used a b : ℕ) (h : lt (look stored p used a .point .x) (look stored p used b .point .x) ≡ true) where
   is-before : beforeUsed p used a b ≡ true
-  unfolding beforeUsed before byNumber keyUsed keyOf key binary64
+  unfolding beforeUsed before byNumber keyUsed keyOf key atBinary64
   is-before = rw h
 
   not-after : beforeUsed p used b a ≡ false
-  unfolding beforeUsed before byNumber keyUsed keyOf key binary64
+  unfolding beforeUsed before byNumber keyUsed keyOf key atBinary64
   not-after = rw (one-way _ _ h, h)
 
   pub left-leads : leads (beforeUsed p used) a b ≡ true

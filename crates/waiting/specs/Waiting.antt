@@ -7,7 +7,7 @@ use lib.ListN.{getD}
 use lib.Dec.{eqb}
 use Rattle.events.specs.declared.Link.{Link}
 use Rattle.events.specs.declared.Link.the-variants.{None, To}
-use Rattle.events.specs.Binary64.{binary64}
+use Rattle.events.specs.Binary64.{atBinary64}
 use Rattle.events.specs.Pool.{Pool, stored}
 use Rattle.order.specs.Order as Order
 use Rattle.order.specs.Keys.{keyUsed}
@@ -37,4 +37,4 @@ unfoldable pub flagged : List Bool → ℕ → Bool
 flagged waits r = getD waits r false
 
 unfoldable pub beforeUsed : Pool → ℕ → ℕ → ℕ → Bool
-beforeUsed p used a b = Order.before binary64 (keyUsed stored p used a) (keyUsed stored p used b)
+beforeUsed p used a b = Order.before atBinary64 (keyUsed stored p used a) (keyUsed stored p used b)

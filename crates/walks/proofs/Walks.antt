@@ -12,7 +12,7 @@ use lib.Seq.{sets}
 use lib.Ieee.{Float}
 use Rattle.numbers.specs.declared.Coordinate.{Coordinate}
 use Rattle.events.specs.Coordinates.{same}
-use Rattle.events.specs.Binary64.{binary64}
+use Rattle.events.specs.Binary64.{atBinary64}
 use Rattle.contours.specs.Round.{seek, tries}
 use Rattle.contours.specs.Walk.{mark, marks, walk, onward, halt, corners}
 use Rattle.contours.specs.Outline.{final, closes}
@@ -39,7 +39,7 @@ module _ (t : Rows) (home : Coordinate) (near : Bool) (ms : List ℕ) (q j : ℕ
       go none s f = refl
       go (some i) s f = absurd (omega (arith, seek-in ms _ i s, f))
 
-  module _ (h : j < length ms) (p : Coordinate) (b : Bool) (f : p ≡ pointAt t j) (g : b ≡ same binary64 home p) where
+  module _ (h : j < length ms) (p : Coordinate) (b : Bool) (f : p ≡ pointAt t j) (g : b ≡ same atBinary64 home p) where
     head-some : heading t home near ms q ≡ cond b (length ms) j
     unfolding heading headTo nextPos found
     head-some = go (seek ms (tried t near q)) e
@@ -72,7 +72,7 @@ module _ (t : Rows) (home : Coordinate) (near : Bool) (c : ℕ) where
     M = marked t c ms i (otherOf t i)
 
     abbrev goes : Option ℕ → List ℕ
-    goes s = i ∷ onward s (λ j. same binary64 home (pointAt t j)) (λ j. path k M j)
+    goes s = i ∷ onward s (λ j. same atBinary64 home (pointAt t j)) (λ j. path k M j)
 
     path-on : (j : ℕ) → j ≡ heading t home near M (otherOf t i) → j < length M → path (suc k) ms i ≡ i ∷ path k M j
     unfolding trail onward halt heading headTo marked mark tableRow rowOf
@@ -84,7 +84,7 @@ module _ (t : Rows) (home : Coordinate) (near : Bool) (c : ℕ) where
 
         go : (s : Option ℕ) → j ≡ headTo t home (length M) s → goes s ≡ i ∷ path k M j
         go none f = absurd (omega arith)
-        go (some l) f = at l (same binary64 home (pointAt t l)) f
+        go (some l) f = at l (same atBinary64 home (pointAt t l)) f
 
     path-end : (j : ℕ) → j ≡ heading t home near M (otherOf t i) → length M ≤ j → path (suc k) ms i ≡ i ∷ []
     unfolding trail onward halt heading headTo marked mark tableRow rowOf
@@ -96,7 +96,7 @@ module _ (t : Rows) (home : Coordinate) (near : Bool) (c : ℕ) where
 
         go : (s : Option ℕ) → seek M (tried t near (otherOf t i)) ≡ s → j ≡ headTo t home (length M) s → goes s ≡ i ∷ []
         go none q f = refl
-        go (some l) q f = at l (same binary64 home (pointAt t l)) (seek-in M _ l q) f
+        go (some l) q f = at l (same atBinary64 home (pointAt t l)) (seek-in M _ l q) f
 
   module _ (ms ms′ : List ℕ) (out out′ : List (List Float)) (e l i : ℕ) (f : ms′ ≡ marked t c ms i (otherOf t i)) (g : out′ ≡ set out e (cornerAfter t i)) where
     -- an edge more in front
@@ -158,7 +158,7 @@ module _ (t : Rows) (near : Bool) (c i first : ℕ) (ms : List ℕ) (out : List 
 
   -- the edges, and whether the last of them is home again
   abbrev closing : Coordinate → Trip → Toured
-  closing p w = toured (w .walked) (w .corners) (told (w .end) (not (same binary64 p (pointAt t (w .last)))))
+  closing p w = toured (w .walked) (w .corners) (told (w .end) (not (same atBinary64 p (pointAt t (w .last)))))
 
   corners-are : (r : List ℕ) → map pointCode (map (λ j. tableRow t (tableRow t j .other) .point) r) ≡ map (cornerAfter t) r
   unfolding tableRow rowOf cornerAfter
@@ -178,7 +178,7 @@ module _ (t : Rows) (near : Bool) (c i first : ℕ) (ms : List ℕ) (out : List 
       (ap (λ (n : ℕ). sets (set out first (pointCode home)) n (map (cornerAfter t) (i ∷ r))) (add-one first)
       ∙ ap (λ (l : List (List Float)). sets (set out first (pointCode home)) (suc first) l) (sym (corners-are (i ∷ r))))
       (omega (arith, length-map (map (λ j. tableRow t (tableRow t j .other) .point) (i ∷ r)) pointCode, length-map (i ∷ r) (λ j. tableRow t (tableRow t j .other) .point)))
-      (ap (λ (p : Coordinate). not (same binary64 home p)) (final-is (otherOf t i) r))
+      (ap (λ (p : Coordinate). not (same atBinary64 home p)) (final-is (otherOf t i) r))
 
   whole-by : (k : ℕ) → (k ≡ 0 → ⊥) → closing home (edgesFrom t home near c k ms (set out first (pointCode home)) (first + 1) 0 i) ≡ walkedAlong t c first ms out (trail t near k home c ms i)
   unfolding trail edgesFrom
@@ -186,7 +186,7 @@ module _ (t : Rows) (near : Bool) (c i first : ℕ) (ms : List ℕ) (out : List 
   whole-by (suc k) h = along-whole _
 
   pub whole : (out′ : List (List Float)) (p q : Coordinate) (w : Trip) (b : Bool) → (size t ≡ 0 → ⊥) → p ≡ home → out′ ≡ set out first (pointCode p)
-      → w ≡ edgesFrom t p near c (size t) ms out′ (first + 1) 0 i → q ≡ pointAt t (w .last) → b ≡ same binary64 p q
+      → w ≡ edgesFrom t p near c (size t) ms out′ (first + 1) 0 i → q ≡ pointAt t (w .last) → b ≡ same atBinary64 p q
       → toured (w .walked) (w .corners) (told (w .end) (not b)) ≡ walkedFrom t near c i first ms out
   unfolding walkedFrom trailFrom tableRow rowOf
   whole out′ p q w b h e f g k l =
@@ -202,7 +202,7 @@ module _ (t : Rows) (home : Coordinate) (near : Bool) (c : ℕ) where
   walk-short (suc k) ms i = go (seek M (tried t near (tableRow t i .other))) (λ j. walk-short k M j)
     where
       M : List ℕ
-      M = mark (same binary64) (size t) (tableRow t) c ms i
+      M = mark (same atBinary64) (size t) (tableRow t) c ms i
 
       Rest : Type 0
       Rest = (j : ℕ) → length (path t home near c k M j) ≤ k
@@ -211,9 +211,9 @@ module _ (t : Rows) (home : Coordinate) (near : Bool) (c : ℕ) where
       at true j h = omega arith
       at false j h = omega (arith, h j)
 
-      go : (s : Option ℕ) → Rest → suc (length (onward s (λ j. same binary64 home (tableRow t j .point)) (λ j. path t home near c k M j))) ≤ suc k
+      go : (s : Option ℕ) → Rest → suc (length (onward s (λ j. same atBinary64 home (tableRow t j .point)) (λ j. path t home near c k M j))) ≤ suc k
       go none h = omega arith
-      go (some j) h = at (same binary64 home (tableRow t j .point)) j h
+      go (some j) h = at (same atBinary64 home (tableRow t j .point)) j h
 
 corners-short : (t : Rows) (r : List ℕ) → length (cornersOf t r) ≤ length r + 1
 unfolding cornersOf corners
@@ -229,15 +229,15 @@ corners-few t near c i ms = omega (arith, corners-short t (path t (tableRow t i 
 -- ---- the definition's walk
 
 -- where what is tried is what the definition tries
-module _ (t : Rows) (near : Bool) (h : (q : ℕ) → tried t near q ≡ tries (same binary64) (size t) (tableRow t) q) where
-  trail-is : (k : ℕ) (home : Coordinate) (c : ℕ) (ms : List ℕ) (i : ℕ) → trail t near k home c ms i ≡ walk (same binary64) (size t) (tableRow t) k home c ms i
+module _ (t : Rows) (near : Bool) (h : (q : ℕ) → tried t near q ≡ tries (same atBinary64) (size t) (tableRow t) q) where
+  trail-is : (k : ℕ) (home : Coordinate) (c : ℕ) (ms : List ℕ) (i : ℕ) → trail t near k home c ms i ≡ walk (same atBinary64) (size t) (tableRow t) k home c ms i
   unfolding trail walk
   trail-is zero home c ms i = refl
   trail-is (suc k) home c ms i =
-      ap₂ (λ (o : Option ℕ) (f : ℕ → List ℕ). i ∷ onward o (λ j. same binary64 home (tableRow t j .point)) f)
-      (ap (seek (mark (same binary64) (size t) (tableRow t) c ms i)) (h (tableRow t i .other)))
-      (fun-ext (trail-is k home c (mark (same binary64) (size t) (tableRow t) c ms i)))
+      ap₂ (λ (o : Option ℕ) (f : ℕ → List ℕ). i ∷ onward o (λ j. same atBinary64 home (tableRow t j .point)) f)
+      (ap (seek (mark (same atBinary64) (size t) (tableRow t) c ms i)) (h (tableRow t i .other)))
+      (fun-ext (trail-is k home c (mark (same atBinary64) (size t) (tableRow t) c ms i)))
 
-  pub trail-from : (c i : ℕ) (ms : List ℕ) → trailFrom t near c i ms ≡ walk (same binary64) (size t) (tableRow t) (size t) (tableRow t i .point) c ms i
+  pub trail-from : (c i : ℕ) (ms : List ℕ) → trailFrom t near c i ms ≡ walk (same atBinary64) (size t) (tableRow t) (size t) (tableRow t i .point) c ms i
   unfolding trailFrom
   trail-from c i ms = trail-is (size t) (tableRow t i .point) c ms i

@@ -12,7 +12,7 @@ use lib.Seq.{sets}
 use lib.Ieee.{Float}
 use Rattle.numbers.specs.declared.Coordinate.{Coordinate}
 use Rattle.events.specs.Coordinates.{same}
-use Rattle.events.specs.Binary64.{binary64}
+use Rattle.events.specs.Binary64.{atBinary64}
 use Rattle.contours.specs.Round.{seek}
 use Rattle.contours.specs.Walk.{mark, marks, onward, corners}
 use Rattle.contours.specs.Outline.{final, closes}
@@ -37,21 +37,21 @@ module _ (t : Rows) where
   unfoldable pub trail : Bool → ℕ → Coordinate → ℕ → List ℕ → ℕ → List ℕ
   trail near zero home c ms i = []
   trail near (suc k) home c ms i =
-      i ∷ onward (seek (mark (same binary64) (size t) (tableRow t) c ms i) (tried t near (tableRow t i .other))) (λ j. same binary64 home (tableRow t j .point))
-      (λ j. trail near k home c (mark (same binary64) (size t) (tableRow t) c ms i) j)
+      i ∷ onward (seek (mark (same atBinary64) (size t) (tableRow t) c ms i) (tried t near (tableRow t i .other))) (λ j. same atBinary64 home (tableRow t j .point))
+      (λ j. trail near k home c (mark (same atBinary64) (size t) (tableRow t) c ms i) j)
 
   -- the trail of contour c from i, the corners of a trail, as the definition has them and as the array holds them, and the marks after it
   unfoldable pub trailFrom : Bool → ℕ → ℕ → List ℕ → List ℕ
   trailFrom near c i ms = trail near (size t) (tableRow t i .point) c ms i
 
   unfoldable pub cornersOf : List ℕ → List (List Float)
-  cornersOf r = map pointCode (corners (same binary64) (size t) (tableRow t) r)
+  cornersOf r = map pointCode (corners (same atBinary64) (size t) (tableRow t) r)
 
   unfoldable pub unclosedTrail : List ℕ → Bool
-  unclosedTrail r = not (closes (same binary64) (corners (same binary64) (size t) (tableRow t) r))
+  unclosedTrail r = not (closes (same atBinary64) (corners (same atBinary64) (size t) (tableRow t) r))
 
   unfoldable pub marksOf : ℕ → List ℕ → List ℕ → List ℕ
-  marksOf c ms r = marks (same binary64) (size t) (tableRow t) c ms r
+  marksOf c ms r = marks (same atBinary64) (size t) (tableRow t) c ms r
 
   -- the contour with this trail, its corners from `first` on
   unfoldable pub walkedAlong : ℕ → ℕ → List ℕ → List (List Float) → List ℕ → Toured
@@ -96,7 +96,7 @@ module _ (t : Rows) where
     -- a walk goes on to a position that is found, unless it is home; m for nowhere
     unfoldable pub headTo : ℕ → Option ℕ → ℕ
     headTo m none = m
-    headTo m (some j) = cond (same binary64 home (pointAt t j)) m j
+    headTo m (some j) = cond (same atBinary64 home (pointAt t j)) m j
 
     -- from the end at q
     unfoldable pub heading : Bool → List ℕ → ℕ → ℕ

@@ -2,7 +2,7 @@
 use borrow.Author.Needs.{needs}
 use mathlib.Core.Path.{sym, ap, _∙_}
 use native.Mathlib.Omega.{arith}
-use Rattle.events.specs.Binary64.{binary64}
+use Rattle.events.specs.Binary64.{atBinary64}
 use Rattle.events.specs.Pool.{stored}
 use Rattle.division.specs.Division.{refused, done}
 use Rattle.division.proofs.Cases.{opened, by-side, by-cut, by-room, by-none, room}
@@ -16,7 +16,7 @@ returns c =
     let cut = side .before .before in
     let second = cut .before in
     let first = second .before .before .before in
-    let all = by-side binary64 stored _ _ _ _ _ _ _ (side .if1 .taken) ∙ opened binary64 stored _ _ _ _ _ _ _ (first .read-used .ensures) (second .read-used2 .ensures) (cut .moved .ensures) in
+    let all = by-side atBinary64 stored _ _ _ _ _ _ _ (side .if1 .taken) ∙ opened atBinary64 stored _ _ _ _ _ _ _ (first .read-used .ensures) (second .read-used2 .ensures) (cut .moved .ensures) in
     (c .refused .ensures ∙ ap (λ a. a .answer) all, ap (λ a. a .store) all)
 
 returns-2 : tie.Need-returns-2
@@ -28,7 +28,7 @@ returns-2 c =
     let second = cut .before in
     let first = second .before .before .before in
     let missed = sym (met .before .misses .ensures) ∙ met .if2 .taken in
-    let all = by-cut binary64 stored _ _ _ _ _ _ _ (side .if1 .left) missed ∙ opened binary64 stored _ _ _ _ _ _ _ (first .read-used .ensures) (second .read-used2 .ensures) (cut .moved .ensures) in
+    let all = by-cut atBinary64 stored _ _ _ _ _ _ _ (side .if1 .left) missed ∙ opened atBinary64 stored _ _ _ _ _ _ _ (first .read-used .ensures) (second .read-used2 .ensures) (cut .moved .ensures) in
     (c .refused2 .ensures ∙ ap (λ a. a .answer) all, ap (λ a. a .store) all)
 
 returns-3 : tie.Need-returns-3
@@ -42,7 +42,7 @@ returns-3 c =
     let first = second .before .before .before in
     let hits = sym (met .before .misses .ensures) ∙ met .if2 .left in
     let no-room = sym (full .before .is-full .ensures) ∙ full .if3 .taken in
-    let all = by-room binary64 stored _ _ _ _ _ _ _ (side .if1 .left) hits no-room ∙ opened binary64 stored _ _ _ _ _ _ _ (first .read-used .ensures) (second .read-used2 .ensures) (cut .moved .ensures) in
+    let all = by-room atBinary64 stored _ _ _ _ _ _ _ (side .if1 .left) hits no-room ∙ opened atBinary64 stored _ _ _ _ _ _ _ (first .read-used .ensures) (second .read-used2 .ensures) (cut .moved .ensures) in
     (c .refused3 .ensures ∙ ap (λ a. a .answer) all, ap (λ a. a .store) all)
 
 part-requires : tie.Need-part-requires
@@ -68,7 +68,7 @@ returns-4 c =
     let first = second .before .before .before in
     let hits = sym (met .before .misses .ensures) ∙ met .if2 .left in
     let free = sym (full .before .is-full .ensures) ∙ full .if3 .left in
-    let all = by-none binary64 stored _ _ _ _ _ _ _ (side .if1 .left) hits free ∙ opened binary64 stored _ _ _ _ _ _ _ (first .read-used .ensures) (second .read-used2 .ensures) (cut .moved .ensures) in
+    let all = by-none atBinary64 stored _ _ _ _ _ _ _ (side .if1 .left) hits free ∙ opened atBinary64 stored _ _ _ _ _ _ _ (first .read-used .ensures) (second .read-used2 .ensures) (cut .moved .ensures) in
     (rw (c .moves .ensures, kept .keeps .ensures) (ap (λ a. a .answer) all), (parted .part .ensures ∙ rw (kept .keeps .ensures)) ∙ ap (λ a. a .store) all)
 
 pub divide-segment-spec : {M : Type 1} → statement M

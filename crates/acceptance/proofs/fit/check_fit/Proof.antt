@@ -1,6 +1,6 @@
 -- From the list's end to its front, one record and its partner more each time.
 use native.Mathlib.Omega.{arith}
-use Rattle.events.specs.Binary64.{binary64}
+use Rattle.events.specs.Binary64.{atBinary64}
 use Rattle.events.specs.Pool.{pool, rowAt}
 use Rattle.checks.specs.Checks.{unfitAt, named}
 use Rattle.contours.specs.Accept.{toldLowest}
@@ -11,7 +11,7 @@ use Rattle.acceptance.proofs.fit.check_fit.Tie as tie
 
 abbrev Inv-loop : tie.InvT-loop
 Inv-loop points marks list n told₀ i₀ told i =
-    Telling (λ l. toldLowest 2 (unfitAt binary64 (rowAt (pool points marks)) n) (named (rowAt (pool points marks)) n l)) list i told
+    Telling (λ l. toldLowest 2 (unfitAt atBinary64 (rowAt (pool points marks)) n) (named (rowAt (pool points marks)) n l)) list i told
 
 abbrev μ-loop : tie.MeasureT-loop
 μ-loop points marks list n told₀ i₀ told i = i

@@ -1,5 +1,5 @@
 -- Each return rewrites by the tests that led to it.
-use Rattle.events.specs.Binary64.{binary64}
+use Rattle.events.specs.Binary64.{atBinary64}
 use Rattle.division.specs.Division as Spec
 use Rattle.division.proofs.cut.misses.Statement.{statement}
 use Rattle.division.proofs.cut.misses.Tie as tie
@@ -15,14 +15,14 @@ returns-2 c =
     rw (← one .before .same-point .ensures, one .if1 .left, ← c .before .same-point2 .ensures, c .if2 .taken)
 
 returns-3 : tie.Need-returns-3
-unfolding Spec.misses binary64
+unfolding Spec.misses atBinary64
 returns-3 c =
     let two = c .before .before .before in
     let one = two .before .before in
     rw (← one .before .same-point .ensures, one .if1 .left, ← two .before .same-point2 .ensures, two .if2 .left, c .if3 .taken)
 
 returns-4 : tie.Need-returns-4
-unfolding Spec.misses binary64
+unfolding Spec.misses atBinary64
 returns-4 c =
     let three = c .before .before .before in
     let two = three .before .before .before in
@@ -30,7 +30,7 @@ returns-4 c =
     rw (← one .before .same-point .ensures, one .if1 .left, ← two .before .same-point2 .ensures, two .if2 .left, three .if3 .left, c .if4 .taken)
 
 returns-5 : tie.Need-returns-5
-unfolding Spec.misses binary64
+unfolding Spec.misses atBinary64
 returns-5 c =
     let four = c .before in
     let three = four .before .before .before in

@@ -1,15 +1,15 @@
 -- Not both fit: the first is not, or else the second decides.
 use mathlib.Core.Bool.{Bool·not-not}
-use Rattle.events.specs.Binary64.{binary64}
+use Rattle.events.specs.Binary64.{atBinary64}
 use Rattle.events.proofs.points.is_unfit_point.Statement.{statement}
 use Rattle.events.proofs.points.is_unfit_point.Tie as tie
 
 returns : tie.Need-returns
-unfolding binary64
+unfolding atBinary64
 returns c = rw (← c .before .is-unfit .ensures, c .if1 .taken)
 
 returns-2 : tie.Need-returns-2
-unfolding binary64
+unfolding atBinary64
 returns-2 c = rw (← c .before .before .is-unfit .ensures, c .before .if1 .left, ← c .is-unfit2 .ensures, Bool·not-not)
 
 pub is-unfit-point-spec : {M : Type 1} → statement M

@@ -4,7 +4,7 @@ use Prim.Native.Nat.{_≤_, _-_}
 use native.Mathlib.Omega.{arith}
 use borrow.Author.Needs.{needs}
 use lib.ListN.{length, drop}
-use Rattle.events.specs.Binary64.{binary64}
+use Rattle.events.specs.Binary64.{atBinary64}
 use Rattle.loading.specs.Loading.{checkedEdges}
 use Rattle.loading.specs.OnPool.{edgesOf}
 use Rattle.loading.proofs.Edges.{length-edges, next}
@@ -14,7 +14,7 @@ use Rattle.loading.proofs.check.check_edges.Tie as tie
 
 abbrev Inv-loop : tie.InvT-loop
 Inv-loop ends labels n i₀ i =
-    (checkedEdges binary64 i (drop i (edgesOf ends labels)) ≡ checkedEdges binary64 0 (edgesOf ends labels))
+    (checkedEdges atBinary64 i (drop i (edgesOf ends labels)) ≡ checkedEdges atBinary64 0 (edgesOf ends labels))
     × (n ≡ length (edgesOf ends labels))
     × (n ≤ length ends)
     × (n ≤ length labels)
@@ -34,7 +34,7 @@ returns c =
     let l = c .before .before .before .before .before .before in
     let a = l .before .before .args in
     let read = c .before .before .before .before .read-edge .ensures in
-    let told = told-at binary64 (edgesOf (a .ends .now) (a .labels .now)) (l .loop .i) (c .before .before .before .check-edge .ensures) read (c .before .told .given .1) in
+    let told = told-at atBinary64 (edgesOf (a .ends .now) (a .labels .now)) (l .loop .i) (c .before .before .before .check-edge .ensures) read (c .before .told .given .1) in
     check-refused _ _ _ (l .loop .i) (l .loop .inv .0) _ (next (a .ends .now) (a .labels .now) (l .loop .i) (omega arith)) _ told
 
 loop-again : tie.Need-loop-again Inv-loop μ-loop
@@ -42,7 +42,7 @@ loop-again c =
     let l = c .before .before .before .before .before in
     let a = l .before .before .args in
     let read = c .before .before .before .read-edge .ensures in
-    let told = told-at binary64 (edgesOf (a .ends .now) (a .labels .now)) (l .loop .i) (c .before .before .check-edge .ensures) read (c .enum-told .given .1) in (
+    let told = told-at atBinary64 (edgesOf (a .ends .now) (a .labels .now)) (l .loop .i) (c .before .before .check-edge .ensures) read (c .enum-told .given .1) in (
       check-passed _ _ _ (l .loop .i) (l .loop .inv .0) _ (next (a .ends .now) (a .labels .now) (l .loop .i) (omega arith)) told,
       l .loop .inv .1,
       l .loop .inv .2,

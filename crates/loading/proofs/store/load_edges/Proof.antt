@@ -3,7 +3,7 @@ use mathlib.Core.Path.{_≡_, refl, _∙_}
 use Prim.Native.Nat.{_≤_, _-_}
 use native.Mathlib.Omega.{arith}
 use lib.ListN.{length, drop}
-use Rattle.events.specs.Binary64.{binary64}
+use Rattle.events.specs.Binary64.{atBinary64}
 use Rattle.events.specs.Pool.{pool, stored}
 use Rattle.loading.specs.Loading.{loaded}
 use Rattle.loading.specs.OnPool.{edgesOf}
@@ -14,7 +14,7 @@ use Rattle.loading.proofs.store.load_edges.Tie as tie
 
 abbrev Inv-loop : tie.InvT-loop
 Inv-loop ends labels points₀ marks₀ n i₀ points marks i =
-    (loaded binary64 stored (pool points marks) i (drop i (edgesOf ends labels)) ≡ loaded binary64 stored (pool points₀ marks₀) 0 (edgesOf ends labels))
+    (loaded atBinary64 stored (pool points marks) i (drop i (edgesOf ends labels)) ≡ loaded atBinary64 stored (pool points₀ marks₀) 0 (edgesOf ends labels))
     × (n ≡ length (edgesOf ends labels))
     × (n ≤ length ends)
     × (n ≤ length labels)

@@ -2,7 +2,7 @@
 use mathlib.Core.Path.{_≡_, refl}
 use Prim.Native.Nat.{_≤_, _-_}
 use native.Mathlib.Omega.{arith}
-use Rattle.events.specs.Binary64.{binary64}
+use Rattle.events.specs.Binary64.{atBinary64}
 use Rattle.events.specs.Pool.{pool, rowAt}
 use Rattle.sweep.specs.Bounds.{reachOf}
 use Rattle.sweep.specs.Bounds as Spec
@@ -11,7 +11,7 @@ use Rattle.sweep.proofs.bounds.rightmost.Statement.{statement}
 use Rattle.sweep.proofs.bounds.rightmost.Tie as tie
 
 abbrev Inv-loop : tie.InvT-loop
-Inv-loop points marks loaded subject reach₀ r₀ reach r = (reachOf reach ≡ Spec.rightmost binary64 (rowAt (pool points marks)) subject r) × (r ≤ loaded)
+Inv-loop points marks loaded subject reach₀ r₀ reach r = (reachOf reach ≡ Spec.rightmost atBinary64 (rowAt (pool points marks)) subject r) × (r ≤ loaded)
 
 abbrev μ-loop : tie.MeasureT-loop
 μ-loop points marks loaded subject reach₀ r₀ reach r = loaded - r

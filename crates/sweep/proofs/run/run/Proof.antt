@@ -4,7 +4,7 @@ use Prim.Native.Nat.{_≤_, _-_}
 use native.Mathlib.Nat.{sub-zero}
 use native.Mathlib.Omega.{arith}
 use lib.ListN.{take}
-use Rattle.events.specs.Binary64.{binary64, inMode}
+use Rattle.events.specs.Binary64.{atBinary64, inMode}
 use Rattle.events.specs.Pool.{pool, stored}
 use Rattle.sweep.specs.Bounds.{reachOf, isPast}
 use Rattle.sweep.specs.Run as Spec
@@ -15,8 +15,8 @@ use Rattle.sweep.proofs.run.run.Tie as tie
 
 abbrev Inv-loop : tie.InvT-loop
 Inv-loop points₀ marks₀ waits₀ queue₀ status₀ taken₀ operation mode bounds steps now₀ k₀ points marks waits queue status taken now k =
-    (Spec.run binary64 stored (inMode mode) operation (isPast binary64 operation (reachOf (bounds .subject)) (reachOf (bounds .clip))) (steps - k) (state (pool points marks) waits (take (now .members) status) (take (now .count) taken) now)
-    ≡ Spec.run binary64 stored (inMode mode) operation (isPast binary64 operation (reachOf (bounds .subject)) (reachOf (bounds .clip))) steps (state (pool points₀ marks₀) waits₀ (take (now₀ .members) status₀) (take (now₀ .count) taken₀) now₀))
+    (Spec.run atBinary64 stored (inMode mode) operation (isPast atBinary64 operation (reachOf (bounds .subject)) (reachOf (bounds .clip))) (steps - k) (state (pool points marks) waits (take (now .members) status) (take (now .count) taken) now)
+    ≡ Spec.run atBinary64 stored (inMode mode) operation (isPast atBinary64 operation (reachOf (bounds .subject)) (reachOf (bounds .clip))) steps (state (pool points₀ marks₀) waits₀ (take (now₀ .members) status₀) (take (now₀ .count) taken₀) now₀))
     × Fits waits status taken now
     × Beyond taken₀ taken now₀ now
     × Queues (pool points marks) waits queue now

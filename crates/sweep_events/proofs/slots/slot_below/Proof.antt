@@ -3,7 +3,7 @@ use mathlib.Core.Path.{_≡_}
 use Prim.Native.Nat.{_+_, _-_, _≤_}
 use native.Mathlib.Omega.{arith}
 use lib.ListN.{length, take, length-take}
-use Rattle.events.specs.Binary64.{binary64, inMode}
+use Rattle.events.specs.Binary64.{atBinary64, inMode}
 use Rattle.events.specs.Pool.{pool, stored}
 use Rattle.sweep_events.specs.Event.{isBelow}
 use Rattle.lists.proofs.Slots.{Standing, begun, found, passed, ended}
@@ -13,7 +13,7 @@ use Rattle.sweep_events.proofs.slots.slot_below.Statement.{statement}
 use Rattle.sweep_events.proofs.slots.slot_below.Tie as tie
 
 abbrev Inv-loop : tie.InvT-loop
-Inv-loop points marks used status n e mode key low ready end i₀ i = (end ≡ length (take n status)) × (end ≤ length status) × (i ≤ end) × Standing (isBelow binary64 stored (inMode mode) (pool points marks) used e) status n i
+Inv-loop points marks used status n e mode key low ready end i₀ i = (end ≡ length (take n status)) × (end ≤ length status) × (i ≤ end) × Standing (isBelow atBinary64 stored (inMode mode) (pool points marks) used e) status n i
 
 abbrev μ-loop : tie.MeasureT-loop
 μ-loop points marks used status n e mode key low ready end i₀ i = end - i
