@@ -20,7 +20,7 @@ STAND_IN = {
 ORDERED = "ordered-"
 SHOWN = 5
 LIMIT = 2.0**100
-# Of each function lies are told on so many calls, and on all that are refused.
+# Of each function lies are told on so many calls, and on as many that are refused.
 LIED = 2000
 
 
@@ -116,6 +116,12 @@ def neigh_kind(words, both):
     return f"code {words[1]}{types} {pieces}{moved}{swapped}"
 
 
+def wanted(function, call, rust):
+    """What ours must answer, and whether that is a refusal."""
+    refused = None if rust in (None, "malformed") or call is None else refusal(function, call, rust)
+    return refused or rust, refused is not None
+
+
 def is_alike(wanted, ours):
     return None not in (wanted, ours) and "malformed" not in (wanted, ours) and zeros_alike(wanted) == zeros_alike(ours)
 
@@ -148,28 +154,27 @@ class Row:
             self.skipped["the Rust panicked"] += 1
             return
         self.compared += 1
-        refused = None if rust in (None, "malformed") or call is None else refusal(function, call, rust)
-        wanted = refused or rust
-        if not is_alike(wanted, ours):
-            self.differ(call, wanted, ours)
+        answer, is_refused = wanted(function, call, rust)
+        if not is_alike(answer, ours):
+            self.differ(call, answer, ours)
             return
-        if refused:
-            self.refused[refused.split()[1]] += 1
+        if is_refused:
+            self.refused[answer.split()[1]] += 1
         else:
             self.kinds[kind(function, call, rust)] += 1
-        if self.compared <= LIED or refused:
-            self.lie(wanted)
+        if self.compared <= LIED or is_refused and sum(self.refused.values()) <= LIED:
+            self.lie(function, call, rust, ours)
 
-    def lie(self, wanted):
+    def lie(self, function, call, rust, ours):
         # Two right answers that are not alike: one of them is another one than this.
-        if len(self.right) < 2 and not any(is_alike(wanted, answer) for answer in self.right):
-            self.right.append(wanted)
-        other = next((answer for answer in self.right if not is_alike(wanted, answer)), None)
+        if len(self.right) < 2 and not any(is_alike(ours, answer) for answer in self.right):
+            self.right.append(ours)
+        other = next((answer for answer in self.right if not is_alike(ours, answer)), None)
         for name, tell in LIES.items():
-            wrong = tell(wanted, other)
+            wrong = tell(ours, other)
             if wrong is not None:
                 self.told[name] += 1
-                self.found[name] += not is_alike(wanted, wrong)
+                self.found[name] += not is_alike(wanted(function, call, rust)[0], wrong)
 
     def differ(self, call, rust, ours):
         self.differing += 1
@@ -186,9 +191,12 @@ class Row:
     def text(self, function):
         counts = lambda counter: ", ".join(f"{name}: {n}" for name, n in sorted(counter.items())) or "-"
         twin = plain_twin(function)
-        rests = f"stand-in {STAND_IN[twin]}" if twin in STAND_IN else "-"
+        rests = ["the wrapped Rust"] if twin != function else []
+        if twin in STAND_IN:
+            rests.append(f"stand-in {STAND_IN[twin]}")
         lies = ", ".join(f"{name}: {self.found[name]} of {n}" for name, n in self.told.items())
-        cells = [function, self.compared, self.differing, counts(self.refused), counts(self.skipped), counts(self.kinds), rests, lies]
+        cells = [function, self.compared, self.differing, counts(self.refused), counts(self.skipped), counts(self.kinds)]
+        cells += [", ".join(rests) or "-", lies]
         return "| " + " | ".join(map(str, cells)) + " |"
 
 
