@@ -117,32 +117,33 @@ fn matched(theirs: &Theirs, swept: &Swept) -> Option<(Numbers, Vec<Option<Event>
     Some((numbers, events))
 }
 
-/// An end of an edge that nothing was done to but its loading and its divisions.
-type Rest = ([u64; 4], bool, bool, u32);
+/// A record by value: its point and its partner's, and all else that is no link.
+type Value = ([u64; 4], [bool; 5], [u32; 3], Option<u32>);
 
-fn rest([x, y]: [f64; 2], [px, py]: [f64; 2], left: bool, subject: bool, ring: u32) -> Rest {
-    ([x, y, px, py].map(|number| (number + 0.0).to_bits()), left, subject, ring)
+fn value(r: &Record, partner: [f64; 2]) -> Value {
+    let numbers = [r.point[0], r.point[1], partner[0], partner[1]];
+    let flags = [r.left, r.subject, r.in_out, r.other_in_out, r.below.is_some()];
+    (numbers.map(|x| (x + 0.0).to_bits()), flags, [r.ring, r.edge_type, r.transition], r.contour)
 }
 
-fn rest_of_theirs(theirs: &Theirs, numbers: &Numbers) -> Vec<Rest> {
-    let free = theirs.rest.iter().filter(|event| numbers.get(event).is_none());
-    let end = |e: &Event| {
-        let other = mate(e).point;
-        rest([e.point.x, e.point.y], [other.x, other.y], e.is_left(), e.is_subject, e.contour_id)
+fn rest_of_theirs(theirs: &Theirs, numbers: &Numbers) -> Vec<Value> {
+    let free: Vec<&Event> = theirs.rest.iter().filter(|event| numbers.get(event).is_none()).collect();
+    // Their partners and below links are among themselves, if anywhere.
+    let among = Numbers::of(free.iter().copied());
+    let end = |event: &&Event| {
+        let partner = mate(event).point;
+        record(event, &among).map(|r| value(&r, [partner.x, partner.y]))
     };
-    sorted(free.map(end).collect())
+    sorted(free.iter().filter_map(end).collect())
 }
 
-fn rest_of_ours(swept: &Swept, events: &[Option<Event>]) -> Vec<Rest> {
+fn rest_of_ours(swept: &Swept, events: &[Option<Event>]) -> Vec<Value> {
     let free = swept.pool.records().zip(events).filter(|(_, event)| event.is_none());
-    let end = |(r, _): (Record, _)| {
-        let other = swept.pool.points.get(r.partner).copied().unwrap_or([f64::NAN; 2]);
-        rest(r.point, other, r.left, r.subject, r.ring)
-    };
+    let end = |(r, _): (Record, _)| value(&r, swept.pool.points.get(r.partner).copied().unwrap_or([f64::NAN; 2]));
     sorted(free.map(end).collect())
 }
 
-fn sorted(mut list: Vec<Rest>) -> Vec<Rest> {
+fn sorted(mut list: Vec<Value>) -> Vec<Value> {
     list.sort();
     list
 }
