@@ -31,10 +31,10 @@ use Rattle.segments.proofs.Boxes.{Apart-in-y, crossing-above, crossing-
 
 -- the four numbers of a key are binary64's, whatever else they are
 pub record Held (k : Key Coordinate) : Type 0 where
-  pub x : T (fits I.atBinary64 (k .point .x))
-  pub y : T (fits I.atBinary64 (k .point .y))
-  pub mate-x : T (fits I.atBinary64 (k .mate .x))
-  pub mate-y : T (fits I.atBinary64 (k .mate .y))
+  pub x : T (fits I.binary64 (k .point .x))
+  pub y : T (fits I.binary64 (k .point .y))
+  pub mate-x : T (fits I.binary64 (k .mate .x))
+  pub mate-y : T (fits I.binary64 (k .mate .y))
 
 -- ---- what the tests tell
 both : (p q : Bool) → cond p q false ≡ true → (p ≡ true) × (q ≡ true)

@@ -45,7 +45,7 @@ above-low x (inf true) t = absurd (not-above x t)
 above-low x (inf false) t = refl
 above-low x (fin s m e) t = refl
 
-add-low : (x y : Float) → isLow (add I.atBinary64 x y) ≡ false → (isLow x ≡ false) × (isLow y ≡ false)
+add-low : (x y : Float) → isLow (add I.binary64 x y) ≡ false → (isLow x ≡ false) × (isLow y ≡ false)
 unfolding add
 add-low nan y t = absurd (true≢false t)
 add-low (inf true) nan t = absurd (true≢false t)
@@ -61,7 +61,7 @@ add-low (fin s m e) (inf true) t = absurd (true≢false t)
 add-low (fin s m e) (inf false) t = (refl, refl)
 add-low (fin s m e) (fin r n d) t = (refl, refl)
 
-sub-low : (x y : Float) → isLow (sub I.atBinary64 x y) ≡ false → (isLow x ≡ false) × (isLow (neg y) ≡ false)
+sub-low : (x y : Float) → isLow (sub I.binary64 x y) ≡ false → (isLow x ≡ false) × (isLow (neg y) ≡ false)
 unfolding sub
 sub-low x y t = add-low x (neg y) t
 
@@ -94,7 +94,7 @@ start-finite (fin s i e) (inf false) z l m t = absurd (not-below z t)
 start-finite (fin s i e) (fin r n d) z l m t = (refl, refl)
 
 -- ---- below the lower of two heights is below both
-lower-both : (y a b : Float) → Finite y → T (fits I.atBinary64 a) → T (fits I.atBinary64 b) → lt y (lowerOf a b) ≡ true → Rising y a × Rising y b
+lower-both : (y a b : Float) → Finite y → T (fits I.binary64 a) → T (fits I.binary64 b) → lt y (lowerOf a b) ≡ true → Rising y a × Rising y b
 unfolding lowerOf ofBits
 lower-both y a b Y A B t = go (notFinite a) refl (notFinite b) refl (lt a b) refl t
   where
@@ -130,7 +130,7 @@ module _ (mode : ℕ) (old new : Key Coordinate) (O : Held old) (N : Held new) w
       (record { a-c = one .0; a-d = one .1; b-c = two .0; b-d = two .1 })
 
   pub passes : lt (old .point .y) low ≡ true → lt (old .mate .y) low ≡ true → le (old .point .x) (new .point .x) ≡ true → lt (new .point .x) (old .mate .x) ≡ true
-      → lt (neg huge) (add I.atBinary64 (sub I.atBinary64 (old .point .x) (old .mate .x)) (add I.atBinary64 (old .point .y) (old .mate .y))) ≡ true → compareSegments atBinary64 (inMode mode) new old ≡ Greater
+      → lt (neg huge) (add I.binary64 (sub I.binary64 (old .point .x) (old .mate .x)) (add I.binary64 (old .point .y) (old .mate .y))) ≡ true → compareSegments atBinary64 (inMode mode) new old ≡ Greater
   passes a b c d s =
       let all = add-low _ _ (above-low _ _ s) in
       let xs = sub-low _ _ (all .0) in
@@ -231,7 +231,7 @@ module _ (a b : Float) where
         go false h k = (less (record { first = fc; second = fa; up = omega (arith, down h, rising fc fb k .up) }), k)
 
 -- what something lies below is finite
-low-finite : (y a b : Float) → T (fits I.atBinary64 a) → T (fits I.atBinary64 b) → lt y (lowerOf a b) ≡ true → Finite (lowerOf a b)
+low-finite : (y a b : Float) → T (fits I.binary64 a) → T (fits I.binary64 b) → lt y (lowerOf a b) ≡ true → Finite (lowerOf a b)
 unfolding lowerOf ofBits
 low-finite y a b A B t = go (notFinite a) refl (notFinite b) refl (lt a b) t
   where
@@ -244,15 +244,15 @@ low-finite y a b A B t = go (notFinite a) refl (notFinite b) refl (lt a b) t
 
 -- ---- two members at once: the one from a to b, and the one from c to d
 pub record Fits (p : Coordinate) : Type 0 where
-  pub x : T (fits I.atBinary64 (p .x))
-  pub y : T (fits I.atBinary64 (p .y))
+  pub x : T (fits I.binary64 (p .x))
+  pub y : T (fits I.binary64 (p .y))
 
 abbrev sum : Coordinate → Coordinate → Float
-sum p q = add I.atBinary64 (sub I.atBinary64 (p .x) (q .x)) (add I.atBinary64 (p .y) (q .y))
+sum p q = add I.binary64 (sub I.binary64 (p .x) (q .x)) (add I.binary64 (p .y) (q .y))
 
 module _ (new : Key Coordinate) (N : Held new) (a b c d : Coordinate) (A : Fits a) (B : Fits b) (C : Fits c) (D : Fits d) where
   pub both-pass : lt (higher (higher (a .y) (b .y)) (higher (c .y) (d .y))) (lowerOf (new .point .y) (new .mate .y)) ≡ true → le (higher (a .x) (c .x)) (new .point .x) ≡ true
-      → lt (new .point .x) (lower (b .x) (d .x)) ≡ true → lt (neg huge) (add I.atBinary64 (sum a b) (sum c d)) ≡ true → Above new a b × Above new c d
+      → lt (new .point .x) (lower (b .x) (d .x)) ≡ true → lt (neg huge) (add I.binary64 (sum a b) (sum c d)) ≡ true → Above new a b × Above new c d
   both-pass h l r s =
       let all = add-low _ _ (above-low _ _ s) in
       let one = add-low _ _ (all .0) in

@@ -18,7 +18,7 @@ use Rattle.segments.specs.Segments.{compareSegments}
 
 -- the lower of a segment's two heights; minus infinity, which nothing lies below, where one of them is not finite
 unfoldable pub lowerOf : Float → Float → Float
-lowerOf a b = cond (notFinite a) (ofBits I.atBinary64 0xfff0_0000_0000_0000) (cond (notFinite b) (ofBits I.atBinary64 0xfff0_0000_0000_0000) (cond (lt a b) a b))
+lowerOf a b = cond (notFinite a) (ofBits I.binary64 0xfff0_0000_0000_0000) (cond (notFinite b) (ofBits I.binary64 0xfff0_0000_0000_0000) (cond (lt a b) a b))
 
 -- a point and a partner's number as the arrays hold them
 abbrev pub pointAt : List (List Float) → ℕ → Coordinate

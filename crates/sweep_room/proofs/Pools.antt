@@ -18,7 +18,7 @@ unfolding size
 wide-pool n p within marks = omega arith
 
 module _ (n : ℕ) where
-  enter-first : (p : Pool) (i : ℕ) (e : Event Coordinate) → firstPlaces n (enter p i e) ≡ enter (firstPlaces n p) i e
+  pub enter-first : (p : Pool) (i : ℕ) (e : Event Coordinate) → firstPlaces n (enter p i e) ≡ enter (firstPlaces n p) i e
   unfolding enter
   enter-first p i e = ap₂ pool (take-set n (p .points) i (pointOf e)) (take-set n (p .marks) i (marksOf e))
 
