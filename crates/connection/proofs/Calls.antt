@@ -15,15 +15,12 @@ use Rattle.contours.specs.Walls.{toldOf}
 use Rattle.contours.proofs.AtBinary64.{order, order-stopped, refusals, closing, walls, unclosed-told, enough, stopped-nine, refused-not-nine}
 use Rattle.connection.specs.declared.Outcome.{Outcome}
 use Rattle.connection.specs.declared.Outcome.the-variants.{Done, Refused}
+use Rattle.connection.specs.Answer.{numberOf}
 use Rattle.connection.specs.Connection.{Lent, roomOf, left, written, told, after, connectEdges}
 use Rattle.connection.specs.Demand.{Outlined, renamedIn, renamed, SameCall, SameRefusal, AnyOrder, Demand}
 
 not-both : (o : Outcome) (x : Refusal) → o ≡ Done → o ≡ Refused x → ⊥
 not-both o x p q = let z : _≡_ {A = ℕ} 0 1 = cc in omega arith
-
-numberIn : Outcome → ℕ
-numberIn Done = 0
-numberIn (Refused r) = r .number
 
 -- ---- a call that is done
 
@@ -73,26 +70,26 @@ module _ (ρ : ℕ → ℕ) (n : ℕ) (p p′ : Pool) (l : Lent) (f g : Finished
       }
 
 refused-alike : (p p′ : Pool) (l : Lent) (x y r : Refusal) → y .number ≡ x .number → Refused x ≡ Refused r → SameRefusal p p′ l r (after (refused x) p l) (after (refused y) p′ l)
-unfolding after numberIn
-refused-alike p p′ l x y r e d = record { other = y; number = e ∙ ap numberIn d; first = ap (λ (o : Outcome). left (told [] o) p l) d; second = refl }
+unfolding after numberOf
+refused-alike p p′ l x y r e d = record { other = y; number = e ∙ ap numberOf d; first = ap (λ (o : Outcome). left (told [] o) p l) d; second = refl }
 
 module _ (ρ : ℕ → ℕ) (p p′ : Pool) (rn : RenumberedPool ρ p p′) (list list′ : List ℕ) (again : Relisted ρ list list′) (l : Lent) where
   any-order : AnyOrder ρ p p′ list l (connectEdges p list l) (connectEdges p′ list′ l)
-  unfolding connectEdges after told numberIn
+  unfolding connectEdges after told numberOf
   any-order = go (connectPool p list (roomOf l)) refl
     where
       go : (x : C.Outcome Coordinate Pool) → connectPool p list (roomOf l) ≡ x → AnyOrder ρ p p′ list l (after x p l) (after (connectPool p′ list′ (roomOf l)) p′ l)
       go (refused x) e =
           record {
             done = λ free d. absurd (not-both (Refused x) x d refl);
-            by-9 = λ free r d nine. absurd (refused-not-nine p list (roomOf l) x e (ap numberIn d ∙ nine));
+            by-9 = λ free r d nine. absurd (refused-not-nine p list (roomOf l) x e (ap numberOf d ∙ nine));
             by-checks = λ r d no-9. let h = refusals ρ p p′ rn list list′ again (roomOf l) x e in rw (h .1) (refused-alike p p′ l x (h .0) r (h .2) d);
           }
       go (stopped x f) e =
           record {
             done = λ free d. absurd (not-both (Refused x) x d refl);
             by-9 = λ free r d nine. let h = order-stopped ρ p p′ rn list list′ again (roomOf l) free x f e in rw (h .1) (stopped-alike ρ (size p) p p′ l f (h .0) (h .2) x);
-            by-checks = λ r d no-9. absurd (no-9 (sym (ap numberIn d) ∙ stopped-nine p list (roomOf l) x f e));
+            by-checks = λ r d no-9. absurd (no-9 (sym (ap numberOf d) ∙ stopped-nine p list (roomOf l) x f e));
           }
       go (connected f) e =
           record {
