@@ -8,9 +8,9 @@ use Rattle.events.specs.declared.Link.{Link}
 use Rattle.events.specs.Event.{Event}
 use Rattle.events.specs.Pool.{Pool, size, rowAt, stored}
 use Rattle.events.specs.Lent.{among, AsLentBut}
-use Rattle.events.proofs.Lent.{twelve, Agree, left, subject, ring, partner, there, below, edgeType, transition, inOut, otherInOut, numbered, contour, lent-here, lent-away}
+use Rattle.events.proofs.Lent.{twelve, Agree, left, subject, ring, partner, edgeType, numbered, contour, lent-here, lent-away}
 use Rattle.class.specs.declared.Operation.{Operation}
-use Rattle.class.specs.Class.{Neighbour, Lower, None, Edge, written, setFromLower, fields}
+use Rattle.class.specs.Class.{Lower, None, Edge, written, setFromLower, fields}
 use Rattle.class.specs.OnPool.{lowerAt, classifiedAt}
 
 abbrev pub classMarks : List ℕ

@@ -19,7 +19,7 @@ use Rattle.events.proofs.Lent.{twelve, Agree, left, subject, ring, partner, the
 use Rattle.checks.specs.declared.Check.{Check}
 use Rattle.checks.specs.declared.Check.the-variants.{Passed, Refused}
 use Rattle.contours.specs.Result.{ordered}
-use Rattle.contours.specs.Contours.{Contour, Answer, done, halted}
+use Rattle.contours.specs.Contours.{Answer, done, halted}
 use Rattle.contours.specs.Accept.{accept}
 use Rattle.contours.specs.Connect.{withContour, settle, settled, numberIn, finished, outcomeOf, traced, afterChecks, connect}
 use Rattle.contours.specs.OnPool.{connectPool}

@@ -1,26 +1,18 @@
 -- Reading after writing: a record survives its two rows, new or over lent marks, and a write touches no other number and no size.
-use mathlib.Core.Path.{_≡_, refl, sym, ap, _∙_}
+use mathlib.Core.Path.{_≡_}
 use mathlib.Core.Logic.{_≢_}
-use mathlib.Core.Bool.{Bool, true, false, cond}
-use mathlib.Core.List.{List, [], _∷_}
-use Prim.Native.Nat.{ℕ, _<_, _≤_, min}
+use mathlib.Core.List.{List, []}
+use Prim.Native.Nat.{ℕ, _<_}
 use native.Mathlib.Omega.{arith}
 use borrow.Author.Tests.{lt-ltb}
-use lib.Dec.{eqb, ltb}
-use lib.ListN.{length, getD, set, length-set}
+use lib.ListN.{length, getD, length-set}
 use lib.Seq.{getD-set-same, getD-set-other}
 use Rattle.numbers.specs.declared.Coordinate.{Coordinate}
-use Rattle.events.specs.declared.EdgeType.{EdgeType}
-use Rattle.events.specs.declared.EdgeType.the-variants.{Normal, NonContributing, SameTransition, DifferentTransition}
-use Rattle.events.specs.declared.ResultTransition.{ResultTransition}
-use Rattle.events.specs.declared.ResultTransition.the-variants.{None as NoTransition, InOut, OutIn}
-use Rattle.events.specs.declared.Link.{Link}
-use Rattle.events.specs.declared.Link.the-variants.{None, To}
 use Rattle.events.specs.Event.{Event}
 use Rattle.events.specs.Store.{Store}
 use Rattle.events.proofs.Codes.{flag, link, edgeType, transition}
 use Rattle.events.proofs.Over.{over-says, link-says}
-use Rattle.events.specs.Pool.{Pool, size, flagOf, flagNumber, linkOf, thereNumber, linkNumber, edgeTypeOf, edgeTypeNumber, transitionOf, transitionNumber, eventOf, pointOf, marksOf, marksOver, rowAt, withRows, enter, store, stored}
+use Rattle.events.specs.Pool.{Pool, size, flagOf, flagNumber, edgeTypeOf, edgeTypeNumber, transitionOf, transitionNumber, eventOf, pointOf, marksOf, marksOver, rowAt, withRows, enter, store, stored}
 
 -- no two records share their rows
 pub back : (e : Event Coordinate) → eventOf (pointOf e) (marksOf e) ≡ e

@@ -1,5 +1,5 @@
 -- Binary64 as a kind of coordinate (`lib.Ieee` calls the format `binary64`), and the crossing on it in each mode.
-use mathlib.Core.Bool.{Bool, not, _&&_}
+use mathlib.Core.Bool.{not, _&&_}
 use Prim.Native.Nat.{ℕ}
 use lib.Ieee.{lt, eq}
 use Rattle.numbers.specs.Binary64.{unfit}

@@ -14,7 +14,7 @@ use Rattle.events.specs.Pool.{Pool, stored}
 use Rattle.events.specs.Lent.{among, AsLentBut}
 use Rattle.events.proofs.Stored.{pool-stored}
 use Rattle.events.proofs.Looks.{look-in}
-use Rattle.events.proofs.Lent.{twelve, Agree, left, subject, ring, partner, there, below, edgeType, transition, inOut, otherInOut, numbered, contour, lent-here, lent-away, lent-then, then-lent}
+use Rattle.events.proofs.Lent.{twelve, Agree, left, subject, ring, partner, there, below, transition, inOut, otherInOut, numbered, contour, lent-here, lent-away, lent-then, then-lent}
 use Rattle.neighbours.specs.Neighbours.{typed, coincided}
 
 type-alone : {P : Type 0} (e : Event P) (t : EdgeType) (k : ℕ) → k < 12 → among k (6 ∷ []) ≡ false → Agree e (typed e t) k

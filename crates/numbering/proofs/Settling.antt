@@ -1,7 +1,7 @@
 -- The loop: the first r records have their numbers. Storing a record with another contour leaves its point as it stands.
 use mathlib.Core.Path.{_≡_, refl, sym, ap, _∙_}
 use mathlib.Core.List.{List, [], _∷_}
-use Prim.Native.Nat.{ℕ, suc, _+_, _<_, _≤_, min}
+use Prim.Native.Nat.{ℕ, _+_, _<_, _≤_}
 use native.Mathlib.Numerals.{add-one}
 use native.Mathlib.Omega.{arith}
 use borrow.Author.Tests.{lt-ltb}
@@ -11,7 +11,7 @@ use lib.Seq.{set-getD}
 use Rattle.events.specs.declared.Link.{Link}
 use Rattle.numbers.specs.declared.Coordinate.{Coordinate}
 use Rattle.events.specs.Event.{Event}
-use Rattle.events.specs.Pool.{Pool, pool, size, eventOf, pointOf, marksOver, rowAt, store, stored}
+use Rattle.events.specs.Pool.{pool, size, eventOf, pointOf, marksOver, rowAt, store, stored}
 use Rattle.contours.specs.Connect.{withContour, settle, settled}
 use Rattle.numbering.specs.Numbering.{numberAt, marksWith, Renumbered, settledBy}
 

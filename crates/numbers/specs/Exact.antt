@@ -1,6 +1,6 @@
 -- The exact value of a number. Each finite number is a whole multiple of 2^-1074; one that is not finite counts as 0, so that every definition
 -- built on this is total. Calls that take numbers from outside refuse such a number before they ask for its value.
-use mathlib.Core.Bool.{Bool, true, false, cond}
+use mathlib.Core.Bool.{Bool, false, cond}
 use Prim.Native.Nat.{ℕ, _*_, _/_, _^_}
 use lib.IntN.{ℤ, pos, negℤ}
 use lib.Ieee.{Float, nan, inf, fin, up, down}

@@ -1,21 +1,19 @@
 -- Records that are the same but for their numbers, in the places in use, are what connection takes for another numbering.
-use mathlib.Core.Path.{_≡_, refl, sym, ap, _∙_}
-use mathlib.Core.Bool.{Bool, true, false}
-use mathlib.Core.List.{List, []}
+use mathlib.Core.Path.{_≡_, sym, ap, _∙_}
+use mathlib.Core.List.{[]}
 use Prim.Native.Nat.{ℕ, _≤_, _<_}
 use native.Mathlib.Decide.{decLt}
 use native.Mathlib.Omega.{arith}
-use borrow.Author.Tests.{lt-ltb, le-ltb}
+use borrow.Author.Tests.{lt-ltb}
 use lib.Dec.{ltb}
-use lib.ListN.{length, take, getD}
+use lib.ListN.{length}
 use lib.Seq.{length-take-le, getD-take}
 use Rattle.numbers.specs.declared.Coordinate.{Coordinate}
-use Rattle.events.specs.declared.Link.{Link}
 use Rattle.events.specs.Event.{Event}
 use Rattle.events.specs.Renaming.{rename}
 use Rattle.events.specs.Pool.{Pool, size, rowAt}
 use Rattle.contours.specs.Connect.{withContour}
-use Rattle.contours.specs.Renaming.{Renumbered, RenumberedPool}
+use Rattle.contours.specs.Renaming.{RenumberedPool}
 use Rattle.sweep_order.specs.SameBut.{Renaming}
 use Rattle.sweep_room.specs.Room.{firstPlaces}
 

@@ -13,12 +13,12 @@ use Rattle.events.specs.Pool.{Pool, size, rowAt, stored}
 use Rattle.order.specs.Order.{before}
 use Rattle.checks.specs.declared.Check.{Check}
 use Rattle.checks.specs.Sound.{Sound}
-use Rattle.contours.specs.Result.{keep, inResult, results, earlier, ordered}
+use Rattle.contours.specs.Result.{inResult, results, earlier, ordered}
 use Rattle.contours.specs.Table.{Row, rowOf, table}
 use Rattle.contours.specs.Table as T
 use Rattle.contours.specs.Contours.{Contour, Answer, done, halted, trace}
 use Rattle.contours.specs.Outline.{Outline, outlines}
-use Rattle.contours.specs.Accept.{Room, accept}
+use Rattle.contours.specs.Accept.{accept}
 use Rattle.contours.specs.Connect.{Finished, connected, stopped, refused, finished, outcomeOf, traced, afterChecks, connect}
 use Rattle.contours.specs.OnPool.{connectPool}
 use Rattle.contours.specs.Renaming.{Renumbered, RenumberedPool}
@@ -30,7 +30,7 @@ use Rattle.contours.proofs.Renamed.{key-kept, result-kept, row-kept}
 use Rattle.contours.proofs.Refusals.{SameNumber, both-pass, both-refuse, accept-same}
 use Rattle.connection.specs.Connection.{Lent, roomOf, written, told, after, connectEdges}
 use Rattle.printing.specs.Arrays.{printedArrays}
-use Rattle.overlay_work.specs.Overlay.{Work, Text, Stopped, connectedTo, afterConnection}
+use Rattle.overlay_work.specs.Overlay.{Text, connectedTo, afterConnection}
 use Rattle.overlay_order.specs.Lines.{SameWork, same-text, same-number}
 use Rattle.overlay_order.proofs.Edges.{same-order}
 

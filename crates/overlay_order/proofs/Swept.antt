@@ -1,14 +1,13 @@
 -- Loaded in another order, with no tie at any taking, the sweep takes the renamed events in the same order: the same text is told, or the same number.
-use mathlib.Core.Path.{_≡_, refl, sym, ap, ap₂, _∙_, subst}
+use mathlib.Core.Path.{_≡_, refl, sym, ap, ap₂, _∙_}
 use mathlib.Core.Bool.{false}
 use mathlib.Core.List.{List, map}
-use Prim.Native.Nat.{ℕ, _+_, _*_, _≤_}
+use Prim.Native.Nat.{ℕ, _≤_}
 use native.Mathlib.Omega.{arith}
 use lib.Ieee.{Float}
 use lib.ListN.{length, take, length-map}
 use lib.Seq.{length-sets}
 use Rattle.lists.proofs.Fronts.{first-are}
-use Rattle.refusals.specs.declared.Refusal.{Refusal}
 use Rattle.crossing.specs.Modes.{ordered}
 use Rattle.events.specs.Binary64.{atBinary64, inMode}
 use Rattle.events.specs.Pool.{Pool, pool, size, stored}
@@ -16,7 +15,6 @@ use Rattle.events.proofs.Stored.{pool-stored}
 use Rattle.class.specs.declared.Operation.{Operation}
 use Rattle.checks.specs.declared.Check.{Check}
 use Rattle.checks.specs.declared.Check.the-variants.{Passed, Refused as Struck}
-use Rattle.loading.specs.declared.Loaded.{Loaded}
 use Rattle.loading.specs.declared.Loaded.the-variants as Loading
 use Rattle.loading.specs.OnPool.{load}
 use Rattle.sweep.specs.declared.Swept.{Swept}
@@ -31,9 +29,9 @@ use Rattle.sweep_order.specs.OnPool.{Reordered, SameAfter, OrderFreeCalls, rena
 use Rattle.sweep_order.proofs.AtBinary64.{order-of-loading}
 use Rattle.sweep_room.specs.Room.{firstPlaces}
 use Rattle.connection.specs.Connection.{lent}
-use Rattle.overlay_work.specs.Overlay.{Work, Text, Stopped, poolPlaces, noPoints, noneTaken, emptyPool, overlayTaken, sweptTo, afterSweep, loadedTo, afterLoading, overlayEdgesIn, overlayEdges}
+use Rattle.overlay_work.specs.Overlay.{poolPlaces, noPoints, noneTaken, emptyPool, overlayTaken, sweptTo, afterSweep, loadedTo, afterLoading, overlayEdgesIn, overlayEdges}
 use Rattle.overlay_work.proofs.Handing.{taken-within, in-use}
-use Rattle.overlay_order.specs.Lines.{SameWork, same-text, same-number}
+use Rattle.overlay_order.specs.Lines.{SameWork, same-number}
 use Rattle.overlay_order.proofs.InUse.{renumbered}
 use Rattle.overlay_order.proofs.Renumbered.{connected-alike}
 

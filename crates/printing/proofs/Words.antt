@@ -1,9 +1,8 @@
 -- The word for a parent.
-use mathlib.Core.Path.{_≡_, refl, sym, ap, _∙_}
+use mathlib.Core.Path.{_≡_, refl}
 use mathlib.Core.List.{List, [], _∷_}
 use Prim.Native.Nat.{ℕ, zero, suc, _-_}
 use native.Mathlib.Numerals.{sub-one}
-use native.Mathlib.Omega.{arith}
 use Rattle.text.specs.Quoted.{quoted}
 use Rattle.text.specs.Digits.{decimal}
 use Rattle.printing.specs.Printing.{parentBytes}

@@ -1,6 +1,6 @@
 -- The table in two lent arrays: what its rows are (`contours.specs.Table`), as a function of the position, and its size.
 -- A flag is 1 for true and any other number for false; the edge below takes two numbers: its position + 1, or 0 for none, and a flag.
-use mathlib.Core.Bool.{Bool, true, false, cond}
+use mathlib.Core.Bool.{Bool, false, cond}
 use mathlib.Core.List.{List, [], _∷_}
 use Prim.Native.Nat.{ℕ, zero, suc}
 use lib.Dec.{eqb, ltb}

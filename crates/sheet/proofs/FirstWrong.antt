@@ -1,15 +1,15 @@
 -- The line told is the first that is wrong: the lines before it are those of some sheet, and with it they are those of none.
 use mathlib.Core.Path.{_≡_, refl, sym, ap, _∙_, subst}
 use mathlib.Core.List.{List, [], _∷_, _++_, append-assoc, append-nil}
-use Prim.Native.Nat.{ℕ, zero, suc, _+_, _-_, _≤_, _<_}
+use Prim.Native.Nat.{ℕ, suc, _+_, _-_, _≤_, _<_}
 use native.Mathlib.Omega.{arith}
 use lib.ListN.{length, drop}
 use lib.Seq.{drop-append-seam}
 use Rattle.class.specs.declared.Operation.{Operation}
 use Rattle.class.specs.declared.Operation.the-variants.{Union}
 use Rattle.sheet.specs.declared.edges.Edge.{Edge}
-use Rattle.sheet.specs.Sheet.{Sheet, AllFit, Fits, operationLine, subjectWord, clipWord, layerBytes, written}
-use Rattle.sheet.specs.Reading.{Parsed, Got, Wrong, operationOf, Layer, Whole, Broken, layerOf, Reading, Accepted, Refused, afterOperation, afterSubject, afterClip, readSheet}
+use Rattle.sheet.specs.Sheet.{Sheet, Fits, operationLine, subjectWord, clipWord, layerBytes, written}
+use Rattle.sheet.specs.Reading.{Parsed, Got, Wrong, operationOf, Layer, Whole, Broken, layerOf, Accepted, Refused, afterOperation, afterSubject, afterClip, readSheet}
 use Rattle.sheet.specs.Lines.{firstLines, Begun}
 use Rattle.sheet.proofs.Sections.{layer-few}
 use Rattle.sheet.proofs.Written.{operation-front, operation-split, layer-front, layer-split}

@@ -8,12 +8,12 @@ use native.Mathlib.Nat.{mod-lt}
 use native.Mathlib.Omega.{arith}
 use borrow.Author.Tests.{lt-ltb, le-ltb, ltb-true, ltb-false, eq-eqb, ne-eqb, eqb-true, eqb-false}
 use lib.Dec.{eqb, ltb}
-use lib.ListN.{length, getD, take, drop, length-append}
+use lib.ListN.{length, getD, drop, length-append}
 use lib.Seq.{drop-at, drop-append-seam, take-append-seam}
 use Rattle.text.specs.declared.digits.Read.{Read}
 use Rattle.text.specs.declared.digits.Read.the-variants.{Value, Nothing}
 use Rattle.text.specs.Words.{bytes, begins}
-use Rattle.text.specs.Digits.{digit, digits, hex, places, decimal, digitOf, value, hexAt, decimalAt}
+use Rattle.text.specs.Digits.{digit, digits, hex, places, decimal, value, hexAt, decimalAt}
 use Rattle.text.proofs.Writing.{digits-length}
 use Rattle.text.proofs.Back.{digit-back, back, bytes-there, decimal-back}
 use Rattle.text.proofs.Forth.{forth, bytes-length, digits-there, value-small}
@@ -21,7 +21,6 @@ use Rattle.text.proofs.Leading.{places-low, places-most, decimal-forth, decimal
 use Rattle.sheet.specs.Sheet.{numberBytes}
 use Rattle.sheet.specs.Reading.{Parsed, Got, Wrong, andThen, got, run, numeral, ringBy, ringFrom, ringOf, numberOf}
 use Rattle.sheet.proofs.Places.{front}
-use Rattle.sheet.proofs.Digits.{run-within}
 
 -- ---- words
 

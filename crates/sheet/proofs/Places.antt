@@ -1,13 +1,12 @@
 -- A place of the bytes and what stands from there on: what is read at the place is read at the front of the rest.
 use mathlib.Core.Path.{_≡_, refl, sym, ap, _∙_}
-use mathlib.Core.List.{List, [], _∷_}
-use Prim.Native.Nat.{ℕ, zero, suc, _+_, _≤_, _<_, min}
+use mathlib.Core.List.{List, _∷_}
+use Prim.Native.Nat.{ℕ, zero, suc, _+_, _<_, min}
 use native.Mathlib.Decide.{decLt}
 use native.Mathlib.Nat.{add-zero}
 use native.Mathlib.Omega.{arith}
 use lib.ListN.{length, getD, drop, drop-of-length-le}
-use lib.Seq.{getD-drop, drop-drop, drop-nil}
-use Rattle.text.specs.declared.digits.Read.{Read}
+use lib.Seq.{getD-drop, drop-drop}
 use Rattle.text.specs.Words.{bytes}
 use Rattle.text.specs.Digits.{value, hexAt, decimalAt}
 

@@ -1,13 +1,13 @@
 -- The format in both directions: every sheet within the limits is accepted, and what is accepted is the one sheet that the bytes are.
 use mathlib.Core.Path.{_≡_, refl, sym, ap, _∙_}
-use mathlib.Core.List.{List, [], _∷_, _++_, append-nil, append-assoc}
+use mathlib.Core.List.{List, [], _∷_, _++_, append-nil}
 use Prim.Native.Nat.{ℕ, _+_, _-_, _≤_, _<_}
 use native.Mathlib.Omega.{arith}
 use lib.ListN.{length}
 use Rattle.class.specs.declared.Operation.{Operation}
 use Rattle.sheet.specs.declared.edges.Edge.{Edge}
 use Rattle.sheet.specs.Sheet.{Sheet, AllFit, Fits, operationLine, subjectWord, clipWord, layerBytes, written}
-use Rattle.sheet.specs.Reading.{Parsed, Got, Wrong, operationOf, Layer, Whole, Broken, layerOf, Reading, Accepted, Refused, afterOperation, afterSubject, afterClip, readSheet}
+use Rattle.sheet.specs.Reading.{Parsed, Got, Wrong, operationOf, Layer, Whole, Broken, layerOf, Accepted, afterOperation, afterSubject, afterClip, readSheet}
 use Rattle.sheet.proofs.Sections.{layer-few}
 use Rattle.sheet.proofs.Written.{operation-front, operation-split, layer-front, layer-split}
 

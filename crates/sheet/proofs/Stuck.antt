@@ -1,20 +1,17 @@
 -- A line is read alike whatever comes after it; so a layer that is broken at a line is begun by the lines before it, and by none with it.
 use mathlib.Core.Path.{_≡_, refl, sym, ap, _∙_, subst}
-use mathlib.Core.Bool.{Bool, true, false, cond}
-use mathlib.Core.List.{List, [], _∷_, _++_, append-assoc, append-nil}
-use Prim.Native.Nat.{ℕ, zero, suc, _+_, _-_, _≤_, _<_}
+use mathlib.Core.List.{List, [], _∷_, _++_, append-assoc}
+use Prim.Native.Nat.{ℕ, zero, suc, _+_, _-_, _≤_}
 use native.Mathlib.Omega.{arith}
-use lib.ListN.{length, drop, replicate, length-append, length-replicate}
-use lib.Seq.{drop-append-seam}
+use lib.ListN.{length, replicate, length-append, length-replicate}
 use Rattle.class.specs.declared.Operation.{Operation}
 use Rattle.sheet.specs.declared.edges.Edge.{Edge}
-use Rattle.sheet.specs.Sheet.{Sheet, CornerFits, EdgeFits, AllFit, Fits, operationLine, subjectWord, clipWord, countLine, edgeLine, edgeLines, layerBytes, written}
-use Rattle.sheet.specs.Reading.{Parsed, Got, Wrong, operationOf, edgeOf, Edges, onEdge, edgesOf, Counted, Count, Many, Malformed, countOf, Layer, Whole, Broken, wholeBy, layerBy, layerOf, Reading, Accepted, Refused, afterOperation, afterSubject, afterClip, readSheet}
-use Rattle.sheet.specs.Lines.{firstLines, Begun}
-use Rattle.sheet.proofs.Sections.{all, count-few, layer-few}
-use Rattle.sheet.proofs.Written.{operation-front, operation-split, edge-front, edge-split, count-front, count-split, layer-front, layer-split}
-use Rattle.sheet.proofs.Sheets.{accepts}
-use Rattle.sheet.proofs.Cuts.{Within, Lines, lines-join, lines-none, operation-line, within-subject, within-clip, count-line, edge-line, edge-lines, layer-lines, in-front, same-line}
+use Rattle.sheet.specs.Sheet.{AllFit, operationLine, countLine, edgeLine, edgeLines, layerBytes}
+use Rattle.sheet.specs.Reading.{Parsed, Got, Wrong, operationOf, edgeOf, onEdge, edgesOf, Counted, Count, Many, Malformed, countOf, Whole, Broken, wholeBy, layerBy, layerOf}
+use Rattle.sheet.specs.Lines.{firstLines}
+use Rattle.sheet.proofs.Sections.{all, count-few}
+use Rattle.sheet.proofs.Written.{operation-front, operation-split, edge-front, edge-split, count-front, count-split}
+use Rattle.sheet.proofs.Cuts.{Within, Lines, lines-join, lines-none, operation-line, count-line, edge-line, edge-lines, same-line}
 
 -- ---- a line is read alike whatever comes after it
 

@@ -8,8 +8,7 @@ use lib.Ieee.{Float, binary64, ofBits}
 use Rattle.sheet.specs.declared.Told.{Told}
 use Rattle.sheet.specs.declared.Told.the-variants.{Read, Refused as ToldRefused}
 use Rattle.sheet.specs.declared.edges.Edge.{Edge}
-use Rattle.sheet.specs.Sheet.{Sheet}
-use Rattle.sheet.specs.Reading.{Reading, Accepted, Refused, readSheet}
+use Rattle.sheet.specs.Reading.{Reading, Accepted, Refused}
 
 unfoldable pub endsOf : Edge → List Float
 endsOf e =

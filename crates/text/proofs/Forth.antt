@@ -6,14 +6,13 @@ use Prim.Native.Nat.{ℕ, zero, suc, _+_, _-_, _*_, _/_, _%_, _^_, _≤_, _<_}
 use native.Mathlib.Decide.{decLt}
 use native.Mathlib.Nat.{pow-zero, pow-suc, pow-succ', pow-le-pow-right, div-one, div-div-eq-div-mul, div-lt-iff-lt-mul}
 use native.Mathlib.Omega.{arith}
-use borrow.Author.Tests.{ltb-true, le-ltb}
+use borrow.Author.Tests.{ltb-true}
 use lib.Arith.{digits-div, digits-mod}
 use lib.Dec.{ltb}
 use lib.ListN.{length, getD, take, drop, take-append-drop, List·getD-eq-default}
 use lib.Seq.{drop-drop}
 use Rattle.text.specs.Digits.{digit, digits, digitOf, value}
 use Rattle.text.specs.Words.{bytes}
-use Rattle.text.specs.declared.digits.Read.{Read}
 use Rattle.text.specs.declared.digits.Read.the-variants.{Value, Nothing}
 use Rattle.text.proofs.Writing.{digit-low, digit-high}
 use Rattle.text.proofs.Reading.{below-0, to-9, below-a, to-f, above-f}

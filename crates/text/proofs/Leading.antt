@@ -6,8 +6,8 @@ use Prim.Native.Nat.{ℕ, zero, suc, _+_, _-_, _*_, _/_, _%_, _^_, _≤_, _<_}
 use native.Mathlib.Decide.{decLt}
 use native.Mathlib.Nat.{pow-zero, pow-suc, pow-succ', pow-le-pow-right, le-div-iff-mul-le, div-lt-iff-lt-mul, mod-eq-of-lt}
 use native.Mathlib.Omega.{arith}
-use borrow.Author.Tests.{lt-ltb, le-ltb, ltb-true, ne-eqb}
-use lib.Dec.{ltb, eqb}
+use borrow.Author.Tests.{ltb-true, ne-eqb}
+use lib.Dec.{ltb}
 use lib.ListN.{length}
 use Rattle.text.specs.Digits.{digit, digits, digitOf, value, places, decimal}
 use Rattle.text.specs.Words.{begins}

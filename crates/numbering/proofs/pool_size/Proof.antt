@@ -1,5 +1,4 @@
 -- The lesser of the two lengths.
-use Prim.Native.Nat.{min}
 use native.Mathlib.Omega.{arith}
 use Rattle.events.specs.Pool.{size}
 use Rattle.numbering.proofs.pool_size.Statement.{statement}

@@ -1,5 +1,4 @@
 -- The record is read and its contour number changed; its point is two numbers.
-use mathlib.Core.Path.{ap}
 use Rattle.numbering.specs.Numbering.{marksWith}
 use Rattle.numbering.proofs.Settling.{stored-point}
 use Rattle.numbering.proofs.renumbered.Statement.{statement}

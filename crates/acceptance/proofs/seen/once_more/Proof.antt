@@ -1,7 +1,6 @@
 -- Zero becomes one, and any other number two.
 use mathlib.Core.Path.{_≡_, refl}
 use Prim.Native.Nat.{ℕ, zero, suc}
-use native.Mathlib.Omega.{arith}
 use Rattle.acceptance.specs.Seen.{again}
 use Rattle.acceptance.proofs.seen.once_more.Statement.{statement}
 use Rattle.acceptance.proofs.seen.once_more.Tie as tie

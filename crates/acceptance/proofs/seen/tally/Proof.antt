@@ -1,5 +1,4 @@
 -- From the list's end to its front, each record noted.
-use borrow.Author.Needs.{needs}
 use native.Mathlib.Omega.{arith}
 use Rattle.acceptance.proofs.Tallying.{Tallying, none-noted, one-noted, all-noted}
 use Rattle.acceptance.proofs.seen.tally.Statement.{statement}

@@ -1,6 +1,6 @@
 -- The case that was matched picks the definition's line, and each corner's test decides it.
 use borrow.Author.Needs.{needs}
-use Rattle.crossing.specs.Boxes.{orLost, isLost}
+use Rattle.crossing.specs.Boxes.{orLost}
 use Rattle.crossing.proofs.boxes.or_lost.Statement.{statement}
 use Rattle.crossing.proofs.boxes.or_lost.Tie as tie
 

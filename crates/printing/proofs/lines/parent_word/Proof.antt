@@ -1,10 +1,7 @@
 -- No parent, or its number.
 use borrow.Author.Needs.{needs}
-use mathlib.Core.Path.{_≡_, sym, ap, subst}
-use mathlib.Core.List.{List}
-use Prim.Native.Nat.{ℕ, _-_}
+use Prim.Native.Nat.{_-_}
 use Rattle.printing.proofs.Words.{no-parent, a-parent}
-use Rattle.printing.specs.Put.{Put}
 use Rattle.printing.proofs.lines.parent_word.Statement.{statement}
 use Rattle.printing.proofs.lines.parent_word.Tie as tie
 

@@ -1,11 +1,5 @@
 -- The pattern's sixteen digits.
 use borrow.Author.Needs.{needs}
-use mathlib.Core.Path.{_≡_, ap, _∙_}
-use native.Mathlib.Omega.{arith}
-use lib.Ieee.{binary64, toBits}
-use lib.ListN.{length}
-use Rattle.text.specs.Digits.{hex}
-use Rattle.text.proofs.Writing.{digits-length}
 use Rattle.printing.proofs.Goings.{sixteen}
 use Rattle.printing.proofs.puts.bits.Statement.{statement}
 use Rattle.printing.proofs.puts.bits.Tie as tie

@@ -1,7 +1,6 @@
 -- The digits counted, but for a zero before others.
 use borrow.Author.Needs.{needs}
 use mathlib.Core.Path.{sym, _∙_}
-use lib.ListN.{drop}
 use Rattle.sheet.proofs.Digits.{numeral-short, numeral-zero, numeral-long}
 use Rattle.sheet.proofs.numerals.numeral.Statement.{statement}
 use Rattle.sheet.proofs.numerals.numeral.Tie as tie

@@ -1,9 +1,7 @@
 -- The first of the four lines that stands in front.
 use borrow.Author.Needs.{needs}
-use mathlib.Core.Path.{_≡_, sym, _∙_}
-use mathlib.Core.Bool.{true, false}
+use mathlib.Core.Path.{sym, _∙_}
 use Rattle.text.specs.Quoted.{quoted}
-use Rattle.text.specs.Words.{begins}
 use Rattle.sheet.specs.Sheet.{operationLine, operationWord}
 use Rattle.sheet.proofs.Lines.{intersection-line, union-line, difference-line, xor-line, no-operation}
 use Rattle.sheet.proofs.operations.read_operation.Statement.{statement}

@@ -3,7 +3,6 @@ use borrow.Author.Needs.{needs}
 use mathlib.Core.Path.{sym, ap}
 use lib.ListN.{set}
 use lib.Seq.{set-out}
-use Rattle.sheet.specs.Stored.{endsOf}
 use Rattle.sheet.proofs.Puts.{ends-are}
 use Rattle.sheet.proofs.stores.put_ends.Statement.{statement}
 use Rattle.sheet.proofs.stores.put_ends.Tie as tie

@@ -1,7 +1,7 @@
 -- The invariant: the first d digits are filled in.
 use borrow.Author.Needs.{needs}
 use mathlib.Core.Path.{_≡_, _∙_}
-use Prim.Native.Nat.{ℕ, _<_, _+_, _-_, _≤_}
+use Prim.Native.Nat.{ℕ, _<_, _-_, _≤_}
 use lib.ListN.{length, length-set, length-replicate}
 use Rattle.text.proofs.Table.{Filled, none-filled, one-filled, all-filled, byte-small}
 use Rattle.text.proofs.digits.digit_table.Statement.{statement}
