@@ -1,7 +1,5 @@
 // The two segments as pieces of lines: where the lines cross, or what part of one line they share.
 ghost use mathlib.Core.Path.{_≡_};
-ghost use lib.Ieee as Ieee;
-ghost use lib.Ieee.{binary64};
 ghost use Rattle.crossing.specs.Lines.{crossProduct, dotProduct, midPoint, minus, outside, atEnd, crossingAt, sharedFrom, intersectionImpl};
 use crate::LineIntersection;
 use numbers::Coordinate;

@@ -1,8 +1,7 @@
 // Words and numbers put one after the other. Each answers the place after what it put, whether it fitted or not.
-ghost use mathlib.Core.List.{List, _∷_, [], _++_};
 ghost use lib.Ieee.{binary64, toBits};
 ghost use Rattle.text.specs.Digits.{decimal, hex};
-ghost use Rattle.sheet.specs.Sheet.{countLine, numberBytes};
+ghost use Rattle.sheet.specs.Sheet.{countLine};
 ghost use Rattle.printing.specs.Put.{Put};
 use text::bits::bits_of;
 use text::digits::HEX_DIGITS;

@@ -3,7 +3,6 @@ ghost use mathlib.Core.Path.{_≡_};
 ghost use lib.ListN.{length, set};
 ghost use lib.Seq.{sets};
 ghost use Rattle.sheet.specs.Stored.{endsOf, labelsOf};
-use crate::edges::Corner;
 use crate::edges::Edge;
 use text::bits::number_of;
 
