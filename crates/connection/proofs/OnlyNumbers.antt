@@ -1,6 +1,6 @@
 -- A contour number is stored over the record that is there, which says nothing else anew: done, stopped by 9 or refused, no other number of the pool moves.
 use mathlib.Core.Path.{_≡_, refl, sym, ap, _∙_, subst}
-use mathlib.Core.Bool.{Bool, true, false, true≢false}
+use mathlib.Core.Bool.{Bool, true, false}
 use mathlib.Core.List.{List, [], _∷_}
 use Prim.Native.Nat.{ℕ, zero, suc, _<_, _≤_}
 use native.Mathlib.Omega.{arith}
@@ -23,15 +23,12 @@ use Rattle.contours.specs.Contours.{Answer, done, halted}
 use Rattle.contours.specs.Accept.{accept}
 use Rattle.contours.specs.Connect.{withContour, settle, settled, numberIn, finished, outcomeOf, traced, afterChecks, connect}
 use Rattle.contours.specs.OnPool.{connectPool}
+use Rattle.numbering.proofs.TwoMarks.{contour-alone}
 use Rattle.contours.proofs.Settled.{settled-on, settled-row, settled-size}
 use Rattle.connection.specs.Connection.{Lent, roomOf, after, connectEdges}
 use Rattle.connection.specs.OnlyNumbers.{OnlyNumbers}
 
 -- ---- what a record says with a contour number
-
-contour-alone : {P : Type 0} (e : Event P) (l : Link) (k : ℕ) → k < 12 → among k (10 ∷ 11 ∷ []) ≡ false → Agree e (withContour l e) k
-unfolding withContour
-contour-alone e l = twelve (λ k. among k (10 ∷ 11 ∷ []) ≡ false → Agree e (withContour l e) k) (λ h. left refl) (λ h. subject refl) (λ h. ring refl) (λ h. partner refl) (λ h. there refl) (λ h. below refl) (λ h. edgeType refl) (λ h. transition refl) (λ h. inOut refl) (λ h. otherInOut refl) (λ h. absurd (true≢false h)) (λ h. absurd (true≢false h))
 
 -- its own
 nothing : {P : Type 0} (e : Event P) (l : Link) → e .contour ≡ l → (k : ℕ) → k < 12 → among k [] ≡ false → Agree e (withContour l e) k

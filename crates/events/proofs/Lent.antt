@@ -46,7 +46,7 @@ pub data Agree {P : Type 0} (a b : Event P) : ℕ → Type 0 where
   numbered : a .contour ≡ b .contour → Agree a b 10
   contour : a .contour ≡ b .contour → Agree a b 11
 
-over-kept : (q : List Float) (m : List ℕ) (e : Event Coordinate) (k : ℕ) → Agree (eventOf q m) e k → getD (marksOver m e) k 0 ≡ getD m k 0
+pub over-kept : (q : List Float) (m : List ℕ) (e : Event Coordinate) (k : ℕ) → Agree (eventOf q m) e k → getD (marksOver m e) k 0 ≡ getD m k 0
 unfolding eventOf marksOver
 over-kept q m e k (left h) = over-lent flagOf flagNumber (getD m 0 0) (e .left) h
 over-kept q m e k (subject h) = over-lent flagOf flagNumber (getD m 1 0) (e .subject) h

@@ -220,7 +220,7 @@ fn transition_over(m: u32, t: ResultTransition) -> u32
 }
 
 // The two marks of a link stay or change together.
-fn there_over(there: u32, n: u32, l: Link) -> u32
+pub fn there_over(there: u32, n: u32, l: Link) -> u32
     ensures { λ r. ⌜ r ≡ thereOver there n l ⌝ }
 {
     if same_link(link_of(there, n), l) {
@@ -229,7 +229,7 @@ fn there_over(there: u32, n: u32, l: Link) -> u32
     number_of_there(l)
 }
 
-fn link_over(there: u32, n: u32, l: Link) -> u32
+pub fn link_over(there: u32, n: u32, l: Link) -> u32
     ensures { λ r. ⌜ r ≡ linkOver there n l ⌝ }
 {
     if same_link(link_of(there, n), l) {

@@ -2,14 +2,12 @@
 ghost use mathlib.Core.Path.{_≡_};
 ghost use Prim.Native.Nat.{_≤_};
 ghost use lib.ListN.{length};
-ghost use Rattle.events.specs.Event.{shown};
 ghost use Rattle.events.specs.Pool.{pool, size};
-ghost use Rattle.contours.specs.Connect.{contourOf, withContour};
+ghost use Rattle.contours.specs.Connect.{contourOf};
 ghost use Rattle.numbering.specs.Numbering.{numberAt, Renumbered, settledBy};
-use events::Event;
 use events::Link;
-use events::pool::event_of;
-use events::pool::marks_over;
+use events::pool::link_over;
+use events::pool::there_over;
 
 // Of a mark: 0 is open, c + 1 is walked in contour c.
 fn contour_of(mark: u32) -> Link
@@ -41,33 +39,16 @@ fn contour_at(places: &[u32], walked: &[u32], r: usize) -> Link
     contour_of(walked[at])
 }
 
-fn with_contour(e: Event, contour: Link) -> Event
-    ensures { λ r. ⌜ shown r ≡ withContour contour (shown e) ⌝ }
-{
-    let point = e.point;
-    let below = e.below;
-    let edge_type = e.edge_type;
-    let transition = e.transition;
-    Event {
-        point,
-        left: e.left,
-        subject: e.subject,
-        ring: e.ring,
-        partner: e.partner,
-        below,
-        edge_type,
-        transition,
-        in_out: e.in_out,
-        other_in_out: e.other_in_out,
-        contour,
-    }
-}
-
-// The marks of a record with its contour number: the other marks stay as lent.
+// The marks of a record with its contour number: only the contour's two are written, and not where they say it already.
 fn renumbered(p: [f64; 2], m: [u32; 12], contour: Link) -> [u32; 12]
     ensures { λ r. ⌜ Renumbered p m contour r ⌝ }
 {
-    marks_over(m, with_contour(event_of(p, m), contour))
+    let there = there_over(m[10], m[11], contour);
+    let number = link_over(m[10], m[11], contour);
+    let mut r = m;
+    r[10] = there;
+    r[11] = number;
+    r
 }
 
 // The records that both arrays hold.
