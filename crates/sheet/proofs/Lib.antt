@@ -7,6 +7,7 @@ pub mod Puts
 pub mod Fronts
 pub mod Written
 pub mod Sheets
+pub mod Stored
 pub mod Copies
 pub mod Cuts
 pub mod Stuck

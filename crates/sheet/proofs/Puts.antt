@@ -3,9 +3,9 @@ use mathlib.Core.Path.{_≡_, refl, sym, ap, _∙_}
 use mathlib.Core.List.{List, [], _∷_, _++_, map}
 use Prim.Native.Nat.{ℕ, suc, _+_, _-_, _≤_, _<_}
 use native.Mathlib.Nat.{add-zero, sub-zero}
+use native.Mathlib.Numerals.{add-one}
 use native.Mathlib.Omega.{arith}
-use lib.Ieee.{Float, binary64, ofBits}
-use lib.ListN.{length, drop, set, length-map, drop-of-length-le}
+use lib.ListN.{length, getD, drop, set, length-map, drop-of-length-le}
 use lib.Seq.{sets, drop-cons}
 use Rattle.class.specs.declared.Operation.{Operation}
 use Rattle.refusals.specs.declared.Refusal.{Refusal}
@@ -19,21 +19,20 @@ use Rattle.sheet.specs.declared.Told.the-variants.{Read, Refused as Told
 use Rattle.sheet.specs.Sheet.{Sheet, subjectWord, clipWord}
 use Rattle.sheet.specs.Reading.{Layer, Whole, Broken, edgesOf, operationOf, countOf, layerOf, Reading, Accepted, afterClip, afterSubject, afterOperation, readSheet}
 use Rattle.sheet.specs.Shown.{shownCount, begun, shownLayer, shownOperation, told}
-use Rattle.sheet.specs.Stored.{endsOf}
 use Rattle.sheet.proofs.Sections.{whole-begun}
 
-pub ends-are : (e : Edge) (x y z w : Float) → x ≡ ofBits binary64 (e .from .x) → y ≡ ofBits binary64 (e .from .y) → z ≡ ofBits binary64 (e .to .x) → w ≡ ofBits binary64 (e .to .y) → x ∷ y ∷ z ∷ w ∷ [] ≡ endsOf e
-unfolding endsOf
-ends-are e x y z w p q r s = rw (p, q, r, s)
-
-module _ {A : Type 0} (f : Edge → A) (b whole : List A) (place i : ℕ) (l : List Edge) (inv : sets b (place + i) (map f l) ≡ whole) where
-  pub put-again : (e : Edge) (m : List Edge) → l ≡ e ∷ m → (c : List A) → c ≡ set b (place + i) (f e) → sets c (place + (i + 1)) (map f m) ≡ whole
+module _ {E A : Type 0} (f : E → A) (b whole : List A) (place i : ℕ) (l : List E) (inv : sets b (place + i) (map f l) ≡ whole) where
+  pub put-again : (e : E) (m : List E) → l ≡ e ∷ m → (c : List A) → c ≡ set b (place + i) (f e) → sets c (place + (i + 1)) (map f m) ≡ whole
   put-again e m h c g =
       let q : place + (i + 1) ≡ suc (place + i) = omega arith in
       rw (g, q) (rw h at inv)
 
   pub put-end : l ≡ [] → b ≡ whole
   put-end h = rw h at inv
+
+-- what is left of rows
+pub left-of : {A : Type 0} (z : A) (rows : List A) (i : ℕ) → i < length rows → drop i rows ≡ getD rows i z ∷ drop (i + 1) rows
+left-of z rows i h = rw add-one (drop-cons rows i z h)
 
 pub put-begun : {A : Type 0} (f : Edge → A) (b : List A) (s : List ℕ) (place count at : ℕ) → sets b (place + 0) (map f (edgesOf (count - 0) (drop at s) .list)) ≡ sets b place (map f (edgesOf count (drop at s) .list))
 put-begun f b s place count at = rw (add-zero place, sub-zero count)
@@ -47,7 +46,7 @@ sets-append b i (x ∷ c) d =
     sets-append (set b i x) (suc i) c d
     ∙ ap (λ (n : ℕ). sets (sets (set b i x) (suc i) c) n d) (omega arith)
 
-put-both : {A : Type 0} (f g : Edge → A) (b c d : List A) (l m : List Edge) (n : ℕ) → n ≡ length l → c ≡ sets b 0 (map f l) → d ≡ sets c n (map g m) → d ≡ sets b 0 (map f l ++ map g m)
+pub put-both : {A : Type 0} (f g : Edge → A) (b c d : List A) (l m : List Edge) (n : ℕ) → n ≡ length l → c ≡ sets b 0 (map f l) → d ≡ sets c n (map g m) → d ≡ sets b 0 (map f l ++ map g m)
 put-both f g b c d l m n h e k =
     let q : 0 + length (map f l) ≡ n = omega (arith, length-map l f) in
     rw (sets-append b 0 (map f l) (map g m), q, ← e) k

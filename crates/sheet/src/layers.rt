@@ -6,12 +6,11 @@ ghost use lib.ListN.{drop, length};
 ghost use lib.Seq.{sets};
 ghost use Rattle.sheet.specs.Reading.{over, countFrom, countOf, edgesOf, wholeBy, layerOf};
 ghost use Rattle.sheet.specs.Shown.{shownCount, begun, shownLayer, countedLayer};
-ghost use Rattle.sheet.specs.Stored.{endsOf, labelsOf};
+ghost use Rattle.sheet.specs.Stored.{rowOf};
 use crate::edges::ReadEdge;
 use crate::edges::read_edge;
 use crate::numerals::numeral;
-use crate::stores::put_ends;
-use crate::stores::put_labels;
+use crate::rows::put_row;
 use refusals::Refusal;
 use text::digits::Read;
 use text::digits::read_decimal;
@@ -77,20 +76,11 @@ pub struct Section {
     pub after: usize,
 }
 
-// Reads edges from `at` on until `count` are read or a line is none, and stores them, the first at `place`; `subject` is 1 for the subject's.
-fn read_edges(
-    s: &[u8],
-    at: usize,
-    count: u32,
-    place: u32,
-    subject: u32,
-    ends: &mut [[f64; 4]],
-    labels: &mut [[u32; 2]],
-) -> Section
+// Reads edges from `at` on until `count` are read or a line is none, and stores them, the first at `place`.
+fn read_edges(s: &[u8], at: usize, count: u32, place: u32, rows: &mut [[u64; 5]]) -> Section
     ensures { λ r. ⌜ r .count ≡ length (edgesOf count (drop at (now (s .entry))) .list) ⌝ }
     ensures { λ r. ⌜ drop (r .after) (now (s .entry)) ≡ edgesOf count (drop at (now (s .entry))) .rest ⌝ }
-    ensures { λ _. ⌜ now (ends .exit) ≡ sets (now (ends .entry)) place (map endsOf (edgesOf count (drop at (now (s .entry))) .list)) ⌝ }
-    ensures { λ _. ⌜ now (labels .exit) ≡ sets (now (labels .entry)) place (map (labelsOf subject) (edgesOf count (drop at (now (s .entry))) .list)) ⌝ }
+    ensures { λ _. ⌜ now (rows .exit) ≡ sets (now (rows .entry)) place (map rowOf (edgesOf count (drop at (now (s .entry))) .list)) ⌝ }
 {
     let mut read = 0;
     let mut line = at;
@@ -101,8 +91,7 @@ fn read_edges(
                 after: line,
             };
         };
-        put_ends(ends, place as usize + read as usize, e);
-        put_labels(labels, place as usize + read as usize, e, subject);
+        put_row(rows, place as usize + read as usize, e);
         line = next;
         read += 1;
     }
@@ -124,16 +113,13 @@ fn read_whole(
     count: u32,
     line: u32,
     place: u32,
-    subject: u32,
-    ends: &mut [[f64; 4]],
-    labels: &mut [[u32; 2]],
+    rows: &mut [[u64; 5]],
 ) -> Layer
     ensures { λ r. ⌜ shownLayer (edgesOf count (drop first (now (s .entry))) .list) (now (s .entry)) r ≡ wholeBy (line + 1) (edgesOf count (drop first (now (s .entry))) .list) (edgesOf count (drop first (now (s .entry))) .missing) (edgesOf count (drop first (now (s .entry))) .rest) ⌝ }
     ensures { λ r. ⌜ countedLayer (edgesOf count (drop first (now (s .entry))) .list) r ⌝ }
-    ensures { λ _. ⌜ now (ends .exit) ≡ sets (now (ends .entry)) place (map endsOf (edgesOf count (drop first (now (s .entry))) .list)) ⌝ }
-    ensures { λ _. ⌜ now (labels .exit) ≡ sets (now (labels .entry)) place (map (labelsOf subject) (edgesOf count (drop first (now (s .entry))) .list)) ⌝ }
+    ensures { λ _. ⌜ now (rows .exit) ≡ sets (now (rows .entry)) place (map rowOf (edgesOf count (drop first (now (s .entry))) .list)) ⌝ }
 {
-    let e = read_edges(s, first, count, place, subject, ends, labels);
+    let e = read_edges(s, first, count, place, rows);
     if e.count < count {
         return Layer::Broken(Refusal {
             number: MALFORMED,
@@ -151,17 +137,14 @@ pub fn read_layer(
     most: u32,
     line: u32,
     place: u32,
-    subject: u32,
-    ends: &mut [[f64; 4]],
-    labels: &mut [[u32; 2]],
+    rows: &mut [[u64; 5]],
 ) -> Layer
     ensures { λ r. ⌜ shownLayer (begun (countOf (now (word .entry)) most (drop at (now (s .entry))))) (now (s .entry)) r ≡ layerOf (now (word .entry)) most line (drop at (now (s .entry))) ⌝ }
     ensures { λ r. ⌜ countedLayer (begun (countOf (now (word .entry)) most (drop at (now (s .entry))))) r ⌝ }
-    ensures { λ _. ⌜ now (ends .exit) ≡ sets (now (ends .entry)) place (map endsOf (begun (countOf (now (word .entry)) most (drop at (now (s .entry)))))) ⌝ }
-    ensures { λ _. ⌜ now (labels .exit) ≡ sets (now (labels .entry)) place (map (labelsOf subject) (begun (countOf (now (word .entry)) most (drop at (now (s .entry)))))) ⌝ }
+    ensures { λ _. ⌜ now (rows .exit) ≡ sets (now (rows .entry)) place (map rowOf (begun (countOf (now (word .entry)) most (drop at (now (s .entry)))))) ⌝ }
 {
     match read_count(s, at, word, most) {
-        Count::Edges(n, first) => { read_whole(s, first, n, line, place, subject, ends, labels) }
+        Count::Edges(n, first) => { read_whole(s, first, n, line, place, rows) }
         Count::Many => Layer::Broken(Refusal {
             number: refusals::SIZE,
             place: line as u64,

@@ -3,17 +3,18 @@ pub mod edges;
 mod layers;
 pub mod numerals;
 pub mod operations;
-mod stores;
+mod rows;
+pub mod stores;
 
 ghost use mathlib.Core.Path.{_≡_};
-ghost use mathlib.Core.List.{List, _++_, map};
+ghost use mathlib.Core.List.{List, map};
 ghost use Prim.Native.Nat.{_≤_, _-_};
 ghost use lib.ListN.{drop, length};
 ghost use lib.Seq.{sets};
 ghost use Rattle.sheet.specs.Sheet.{Sheet, clipWord};
 ghost use Rattle.sheet.specs.Reading.{Accepted, Whole, countOf, afterClip, afterSubject, readSheet};
 ghost use Rattle.sheet.specs.Shown.{begun, told};
-ghost use Rattle.sheet.specs.Stored.{endsOf, labelsOf, left, leave};
+ghost use Rattle.sheet.specs.Stored.{rowOf, rowsIn, leftRows, leaveRows, left, leave};
 use class::Operation;
 use edges::Edge;
 use layers::Layer;
@@ -23,10 +24,9 @@ use layers::read_layer;
 use operations::Found;
 use operations::read_operation;
 use refusals::Refusal;
-use stores::copy_ends;
-use stores::copy_labels;
-use stores::no_ends;
-use stores::no_labels;
+use rows::copy_rows;
+use rows::no_rows;
+use stores::store_rows;
 
 // The most edges, in both layers together.
 pub const MAX_EDGES: u32 = 256;
@@ -55,37 +55,24 @@ fn after_subject(
     bytes: &[u8],
     operation: Operation,
     subject: Section,
-    ends: &mut [[f64; 4]],
-    labels: &mut [[u32; 2]],
+    rows: &mut [[u64; 5]],
 ) -> Told
     requires { ⌜ subject .count ≤ 256 ⌝ }
     ensures { λ r. ⌜ ((l : List Edge) → subject .count ≡ length l → r ≡ told (afterSubject operation (Whole l (drop (subject .after) (now (bytes .entry)))))) ⌝ }
-    ensures { λ _. ⌜ now (ends .exit) ≡ sets (now (ends .entry)) (subject .count) (map endsOf (begun (countOf clipWord (256 - subject .count) (drop (subject .after) (now (bytes .entry)))))) ⌝ }
-    ensures { λ _. ⌜ now (labels .exit) ≡ sets (now (labels .entry)) (subject .count) (map (labelsOf 0) (begun (countOf clipWord (256 - subject .count) (drop (subject .after) (now (bytes .entry)))))) ⌝ }
+    ensures { λ _. ⌜ now (rows .exit) ≡ sets (now (rows .entry)) (subject .count) (map rowOf (begun (countOf clipWord (256 - subject .count) (drop (subject .after) (now (bytes .entry)))))) ⌝ }
 {
     let n = subject.count;
     let most = MAX_EDGES - n;
-    match read_layer(
-        bytes,
-        subject.after,
-        b"clip ",
-        most,
-        3 + n,
-        n,
-        0,
-        ends,
-        labels,
-    ) {
+    match read_layer(bytes, subject.after, b"clip ", most, 3 + n, n, rows) {
         Layer::Whole(clip) => after_clip(bytes, operation, subject, clip),
         Layer::Broken(refusal) => Told::Refused(refusal),
     }
 }
 
 // Reads line by line, and stores edges as they are read; what a refused sheet leaves is not told.
-fn read_lines(bytes: &[u8], ends: &mut [[f64; 4]], labels: &mut [[u32; 2]]) -> Told
+fn read_lines(bytes: &[u8], rows: &mut [[u64; 5]]) -> Told
     ensures { λ r. ⌜ r ≡ told (readSheet (now (bytes .entry))) ⌝ }
-    ensures { λ _. ⌜ ((x : Sheet) → readSheet (now (bytes .entry)) ≡ Accepted x → now (ends .exit) ≡ sets (now (ends .entry)) 0 (map endsOf (x .subject) ++ map endsOf (x .clip))) ⌝ }
-    ensures { λ _. ⌜ ((x : Sheet) → readSheet (now (bytes .entry)) ≡ Accepted x → now (labels .exit) ≡ sets (now (labels .entry)) 0 (map (labelsOf 1) (x .subject) ++ map (labelsOf 0) (x .clip))) ⌝ }
+    ensures { λ _. ⌜ ((x : Sheet) → readSheet (now (bytes .entry)) ≡ Accepted x → now (rows .exit) ≡ sets (now (rows .entry)) 0 (rowsIn x)) ⌝ }
 {
     let Found::Line(o, at) = read_operation(bytes) else {
         return Told::Refused(Refusal {
@@ -93,25 +80,42 @@ fn read_lines(bytes: &[u8], ends: &mut [[f64; 4]], labels: &mut [[u32; 2]]) -> T
             place: 1,
         });
     };
-    match read_layer(bytes, at, b"subject ", MAX_EDGES, 2, 0, 1, ends, labels) {
-        Layer::Whole(subject) => after_subject(bytes, o, subject, ends, labels),
+    match read_layer(bytes, at, b"subject ", MAX_EDGES, 2, 0, rows) {
+        Layer::Whole(subject) => after_subject(bytes, o, subject, rows),
         Layer::Broken(refusal) => Told::Refused(refusal),
     }
 }
 
-// The edges go into the lent arrays from place 0 on, the subject's first, as loading takes them. A refused sheet leaves the arrays as lent: edges are
-// read into arrays of the function's own, and copied once the whole sheet is accepted.
+// The rows of each layer, from place 0 of an array of its own. A refused sheet leaves both as lent: edges are read into an array of the function's own,
+// and copied once the whole sheet is accepted.
+pub fn read_rows(bytes: &[u8], subject: &mut [[u64; 5]], clip: &mut [[u64; 5]]) -> Told
+    ensures { λ r. ⌜ leftRows r (now (subject .exit)) (now (clip .exit)) ≡ leaveRows (readSheet (now (bytes .entry))) (now (subject .entry)) (now (clip .entry)) ⌝ }
+{
+    let mut own = no_rows();
+    match read_lines(bytes, &mut own) {
+        Told::Refused(refusal) => Told::Refused(refusal),
+        Told::Read(operation, a, c) => {
+            let n = a as usize;
+            let end = n + c as usize;
+            copy_rows(subject, &own[..n]);
+            copy_rows(clip, &own[n..end]);
+            Told::Read(operation, a, c)
+        }
+    }
+}
+
+// .. in the form that loading takes.
 pub fn read_sheet(bytes: &[u8], ends: &mut [[f64; 4]], labels: &mut [[u32; 2]]) -> Told
     ensures { λ r. ⌜ left r (now (ends .exit)) (now (labels .exit)) ≡ leave (readSheet (now (bytes .entry))) (now (ends .entry)) (now (labels .entry)) ⌝ }
 {
-    let mut own_ends = no_ends();
-    let mut own_labels = no_labels();
-    match read_lines(bytes, &mut own_ends, &mut own_labels) {
+    let mut own = no_rows();
+    match read_lines(bytes, &mut own) {
         Told::Refused(refusal) => Told::Refused(refusal),
         Told::Read(operation, subject, clip) => {
-            let n = subject as usize + clip as usize;
-            copy_ends(ends, &own_ends[..n]);
-            copy_labels(labels, &own_labels[..n]);
+            let n = subject as usize;
+            let end = n + clip as usize;
+            store_rows(&own[..n], 1, 0, ends, labels);
+            store_rows(&own[n..end], 0, n, ends, labels);
             Told::Read(operation, subject, clip)
         }
     }

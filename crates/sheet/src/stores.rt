@@ -1,72 +1,56 @@
-// Edges in arrays: each is put into arrays of reading's own, and all are copied to the lent ones once the sheet is accepted.
+// Rows of words stored in the form that loading takes: the two ends as numbers, and the ring with 1 for the subject.
 ghost use mathlib.Core.Path.{_≡_};
-ghost use lib.ListN.{length, set};
+ghost use mathlib.Core.List.{map};
+ghost use Prim.Native.Nat.{_+_};
+ghost use lib.ListN.{set};
 ghost use lib.Seq.{sets};
-ghost use Rattle.sheet.specs.Stored.{endsOf, labelsOf};
-use crate::edges::Edge;
+ghost use Rattle.sheet.specs.Stored.{endsOfRow, labelsOfRow};
 use text::bits::number_of;
+use text::words::is_below;
 
-// `MAX_EDGES`, as an array is declared.
-const EDGES: usize = 256;
+// A ring is below this.
+const RINGS: u64 = 0x1_0000_0000;
 
-pub fn put_ends(ends: &mut [[f64; 4]], at: usize, e: Edge)
-    ensures { λ _. ⌜ now (ends .exit) ≡ set (now (ends .entry)) at (endsOf e) ⌝ }
+// Stores a row's ends k places after `at`.
+fn put_ends(ends: &mut [[f64; 4]], at: usize, k: usize, row: [u64; 5])
+    ensures { λ _. ⌜ now (ends .exit) ≡ set (now (ends .entry)) (at + k) (endsOfRow row) ⌝ }
 {
-    let from = e.from;
-    let to = e.to;
     let four = [
-        number_of(from.x),
-        number_of(from.y),
-        number_of(to.x),
-        number_of(to.y),
+        number_of(row[0]),
+        number_of(row[1]),
+        number_of(row[2]),
+        number_of(row[3]),
     ];
-    if at < ends.len() {
-        ends[at] = four;
+    if is_below(at, k, ends.len()) {
+        ends[at + k] = four;
     }
 }
 
-pub fn put_labels(labels: &mut [[u32; 2]], at: usize, e: Edge, subject: u32)
-    ensures { λ _. ⌜ now (labels .exit) ≡ set (now (labels .entry)) at (labelsOf subject e) ⌝ }
+// .. its labels.
+fn put_labels(labels: &mut [[u32; 2]], at: usize, k: usize, row: [u64; 5], subject: u32)
+    ensures { λ _. ⌜ now (labels .exit) ≡ set (now (labels .entry)) (at + k) (labelsOfRow subject row) ⌝ }
 {
-    if at < labels.len() {
-        labels[at] = [e.ring, subject];
+    if is_below(at, k, labels.len()) {
+        labels[at + k] = [(row[4] % RINGS) as u32, subject];
     }
 }
 
-// The arrays that a sheet is read into.
-pub fn no_ends() -> [[f64; 4]; EDGES]
-    ensures { λ r. ⌜ length r ≡ 256 ⌝ }
-{
-    [[0.0; 4]; EDGES]
-}
-
-pub fn no_labels() -> [[u32; 2]; EDGES]
-    ensures { λ r. ⌜ length r ≡ 256 ⌝ }
-{
-    [[0u32; 2]; EDGES]
-}
-
-// Copies what was read to the first places, as far as there are any.
-pub fn copy_ends(ends: &mut [[f64; 4]], read: &[[f64; 4]])
-    ensures { λ _. ⌜ now (ends .exit) ≡ sets (now (ends .entry)) 0 (now (read .entry)) ⌝ }
+// Stores rows from `at` on, in each array as far as it goes.
+pub fn store_rows(
+    rows: &[[u64; 5]],
+    subject: u32,
+    at: usize,
+    ends: &mut [[f64; 4]],
+    labels: &mut [[u32; 2]],
+)
+    ensures { λ _. ⌜ now (ends .exit) ≡ sets (now (ends .entry)) at (map endsOfRow (now (rows .entry))) ⌝ }
+    ensures { λ _. ⌜ now (labels .exit) ≡ sets (now (labels .entry)) at (map (labelsOfRow subject) (now (rows .entry))) ⌝ }
 {
     let mut i = 0;
-    while i < read.len() {
-        if i < ends.len() {
-            ends[i] = read[i];
-        }
-        i += 1;
-    }
-}
-
-pub fn copy_labels(labels: &mut [[u32; 2]], read: &[[u32; 2]])
-    ensures { λ _. ⌜ now (labels .exit) ≡ sets (now (labels .entry)) 0 (now (read .entry)) ⌝ }
-{
-    let mut i = 0;
-    while i < read.len() {
-        if i < labels.len() {
-            labels[i] = read[i];
-        }
+    while i < rows.len() {
+        let row = rows[i];
+        put_ends(ends, at, i, row);
+        put_labels(labels, at, i, row, subject);
         i += 1;
     }
 }

@@ -7,33 +7,29 @@ use Prim.Native.Nat.{_+_, _-_, _≤_}
 use lib.ListN.{length, drop}
 use lib.Seq.{sets}
 use Rattle.sheet.specs.Reading.{edgesOf}
-use Rattle.sheet.specs.Stored.{endsOf, labelsOf}
+use Rattle.sheet.specs.Stored.{rowOf}
 use Rattle.sheet.proofs.Sections.{next-list, stop-list, end-list, read-begun, rest-begun, read-again, rest-again, read-stop, rest-stop, read-end, rest-end}
 use Rattle.sheet.proofs.Puts.{put-begun, put-again, put-end}
 use Rattle.sheet.proofs.layers.read_edges.Statement.{statement}
 use Rattle.sheet.proofs.layers.read_edges.Tie as tie
 
 abbrev Inv-loop : tie.InvT-loop
-Inv-loop s at count place subject ends₀ labels₀ read₀ line₀ ends labels read line =
+Inv-loop s at count place rows₀ read₀ line₀ rows read line =
     (read + length (edgesOf (count - read) (drop line s) .list) ≡ length (edgesOf count (drop at s) .list))
     × (edgesOf (count - read) (drop line s) .rest ≡ edgesOf count (drop at s) .rest)
-    × (sets ends (place + read) (map endsOf (edgesOf (count - read) (drop line s) .list)) ≡ sets ends₀ place (map endsOf (edgesOf count (drop at s) .list)))
-    × (sets labels (place + read) (map (labelsOf subject) (edgesOf (count - read) (drop line s) .list)) ≡ sets labels₀ place (map (labelsOf subject) (edgesOf count (drop at s) .list)))
-    × (length ends ≡ length ends₀)
-    × (length labels ≡ length labels₀)
+    × (sets rows (place + read) (map rowOf (edgesOf (count - read) (drop line s) .list)) ≡ sets rows₀ place (map rowOf (edgesOf count (drop at s) .list)))
+    × (length rows ≡ length rows₀)
     × (read ≤ count)
 
 abbrev μ-loop : tie.MeasureT-loop
-μ-loop s at count place subject ends₀ labels₀ read₀ line₀ ends labels read line = count - read
+μ-loop s at count place rows₀ read₀ line₀ rows read line = count - read
 
 loop-holds : tie.Need-loop-holds Inv-loop μ-loop
 loop-holds c =
     let a = c .before .args in (
       read-begun (a .s .now) (a .count) (a .at),
       rest-begun (a .s .now) (a .count) (a .at),
-      put-begun endsOf (a .ends .now) (a .s .now) (a .place) (a .count) (a .at),
-      put-begun (labelsOf (a .subject)) (a .labels .now) (a .s .now) (a .place) (a .count) (a .at),
-      search needs,
+      put-begun rowOf (a .rows .now) (a .s .now) (a .place) (a .count) (a .at),
       search needs,
       search needs,
     )
@@ -47,26 +43,23 @@ returns c =
     let w = c .enum-told .given .1 in
     let none = stop-list (a .s .now) (a .count) (l .read) (l .line) t _ r w in (
       read-stop (a .s .now) (a .count) (l .read) (l .line) t _ r w _ (l .inv .0),
-      (rest-stop (a .s .now) (a .count) (l .read) (l .line) t _ r w _ (l .inv .1), (put-end endsOf _ _ (a .place) (l .read) _ (l .inv .2) none, put-end (labelsOf (a .subject)) _ _ (a .place) (l .read) _ (l .inv .3) none)),
+      (rest-stop (a .s .now) (a .count) (l .read) (l .line) t _ r w _ (l .inv .1), put-end rowOf _ _ (a .place) (l .read) _ (l .inv .2) none),
     )
 
 loop-again : tie.Need-loop-again Inv-loop μ-loop
 loop-again c =
-    let at = c .before .before .before .before .before .before .before .before .before .before .before in
+    let at = c .before .before .before .before .before .before .before .before in
     let a = at .before .before .args in
     let l = at .loop in
-    let t = c .before .before .before .before .before .before .before .before .before .before .loop-test .taken in
-    let r = c .before .before .before .before .before .before .before .before .before .read-edge .ensures in
-    let w = c .before .before .before .before .before .before .before .e .given .1 in
-    let ends = c .before .before .before .before .put-ends in
-    let labels = c .before .put-labels in
+    let t = c .before .before .before .before .before .before .before .loop-test .taken in
+    let r = c .before .before .before .before .before .before .read-edge .ensures in
+    let w = c .before .before .before .before .e .given .1 in
+    let row = c .before .put-row in
     let next = next-list (a .s .now) (a .count) (l .read) (l .line) t _ r _ _ w in (
       read-again (a .s .now) (a .count) (l .read) (l .line) t _ r _ _ w _ (l .inv .0),
       rest-again (a .s .now) (a .count) (l .read) (l .line) t _ r _ _ w _ (l .inv .1),
-      put-again endsOf _ _ (a .place) (l .read) _ (l .inv .2) _ _ next _ (ends .ensures),
-      put-again (labelsOf (a .subject)) _ _ (a .place) (l .read) _ (l .inv .3) _ _ next _ (labels .ensures),
-      ends .kept .0 ∙ l .inv .4,
-      labels .kept .0 ∙ l .inv .5,
+      put-again rowOf _ _ (a .place) (l .read) _ (l .inv .2) _ _ next _ (row .ensures),
+      row .kept .0 ∙ l .inv .3,
       search needs,
     )
 
@@ -77,7 +70,7 @@ returns-2 c =
     let t = c .loop-test .left in
     let none = end-list (a .s .now) (a .count) (l .read) (l .line) t in (
       read-end (a .s .now) (a .count) (l .read) (l .line) t _ (l .inv .0),
-      (rest-end (a .s .now) (a .count) (l .read) (l .line) t _ (l .inv .1), (put-end endsOf _ _ (a .place) (l .read) _ (l .inv .2) none, put-end (labelsOf (a .subject)) _ _ (a .place) (l .read) _ (l .inv .3) none)),
+      (rest-end (a .s .now) (a .count) (l .read) (l .line) t _ (l .inv .1), put-end rowOf _ _ (a .place) (l .read) _ (l .inv .2) none),
     )
 
 pub read-edges-spec : {M : Type 1} → statement M
@@ -91,17 +84,12 @@ read-edges-spec =
     (λ c. search needs)
     (λ c. search needs)
     (λ c. search needs)
-    (λ c. search needs)
     returns
     (λ c. search needs)
     (λ c. search needs)
     (λ c κs. tt)
     (λ c. search needs)
     (λ c. search needs)
-    (λ c κs. tt)
-    (λ c. search needs)
-    (λ c. search needs)
     loop-again
-    (λ c. search needs)
     (λ c. search needs)
     returns-2)

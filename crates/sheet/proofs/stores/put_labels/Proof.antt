@@ -1,19 +1,33 @@
--- A store past the end changes nothing.
+-- The test says whether the place is there; a store past the end changes nothing.
 use borrow.Author.Needs.{needs}
-use mathlib.Core.Path.{refl, sym}
+use borrow.Author.Tests.{ltb-true, ltb-false}
+use mathlib.Core.Path.{refl, sym, _∙_}
+use native.Mathlib.Omega.{arith}
 use lib.Seq.{set-out}
-use Rattle.sheet.specs.Stored.{labelsOf}
+use Rattle.sheet.specs.Stored.{labelsOfRow}
 use Rattle.sheet.proofs.stores.put_labels.Statement.{statement}
 use Rattle.sheet.proofs.stores.put_labels.Tie as tie
 
+there : tie.Need-slice-set-from-labels
+there c = ltb-true _ _ (sym (c .before .is-below .ensures) ∙ c .if1 .taken)
+
 returns : tie.Need-returns
-unfolding labelsOf
+unfolding labelsOfRow
 returns c = refl
 
 returns-2 : tie.Need-returns-2
-returns-2 c = sym (set-out (c .before .args .labels .now) (c .before .args .at) _ (c .if1 .left))
+returns-2 c = sym (set-out _ _ _ (ltb-false _ _ (sym (c .before .is-below .ensures) ∙ c .if1 .left)))
 
 pub put-labels-spec : {M : Type 1} → statement M
 put-labels-spec =
     tie.close
-    (tie.spec (λ c. search needs) (λ c. search needs) (λ c. search needs) returns returns-2)
+    (tie.spec
+    (λ c κs. tt)
+    (λ c. search needs)
+    (λ c. search needs)
+    (λ c. omega (arith, there c))
+    (λ c. omega (arith, there c))
+    there
+    (λ c. search needs)
+    returns
+    returns-2)
