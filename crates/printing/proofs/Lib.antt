@@ -4,4 +4,5 @@ pub mod Parts
 pub mod Words
 pub mod Apart
 pub mod Held
+pub mod Layers
 pub mod Lengths

@@ -1,7 +1,8 @@
-// Printing (01, 'The sheet'): contours from lent arrays, or a refusal, as bytes in a lent array. What does not fit is not stored; the answer is how
-// many bytes are wanted, at most the largest number that can be told.
+// Printing (01, 'The sheet'): contours from lent arrays, a refusal, or a sheet, as bytes in a lent array. What does not fit is not stored; the answer
+// is how many bytes are wanted, at most the largest number that can be told.
 pub mod lines;
 pub mod puts;
+pub mod sheets;
 
 ghost use mathlib.Core.List.{map};
 ghost use mathlib.Core.Path.{_≡_};

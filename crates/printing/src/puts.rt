@@ -1,7 +1,7 @@
 // Words and numbers put one after the other. Each answers the place after what it put, whether it fitted or not.
 ghost use lib.Ieee.{binary64, toBits};
 ghost use Rattle.text.specs.Digits.{decimal, hex};
-ghost use Rattle.sheet.specs.Sheet.{countLine};
+ghost use Rattle.sheet.specs.Sheet.{countLine, numberBytes};
 ghost use Rattle.printing.specs.Put.{Put};
 use text::bits::bits_of;
 use text::digits::HEX_DIGITS;
@@ -33,6 +33,15 @@ pub fn bits(out: &mut [u8], at: usize, x: f64) -> usize
 {
     put_hex(out, at, bits_of(x));
     after(at, HEX_DIGITS, MOST)
+}
+
+// A space and the hex digits of a 64-bit word.
+pub fn word(out: &mut [u8], at: usize, w: u64) -> usize
+    ensures { λ r. ⌜ Put (now (out .entry)) at (numberBytes w) (now (out .exit)) r ⌝ }
+{
+    let digits = text(out, at, b" ");
+    put_hex(out, digits, w);
+    after(digits, HEX_DIGITS, MOST)
 }
 
 // A word, a number and the line feed.
