@@ -1,0 +1,72 @@
+-- Small sheets that compute. By bits: 1 is 0x3ff0.., 2 is 0x4000.., minus 1 is 0xbff0.., minus zero is 0x8000...
+use mathlib.Core.Path.{_≡_, refl}
+use mathlib.Core.List.{List, [], _∷_}
+use Prim.Native.Nat.{ℕ}
+use Rattle.class.specs.declared.Operation.the-variants.{Intersection, Difference}
+use Rattle.contours.specs.Result.{insert, sort}
+use Rattle.sheet.specs.declared.edges.Corner.{Corner}
+use Rattle.sheet.specs.declared.edges.Edge.{Edge}
+use Rattle.sorting.specs.Rows.{atMost, joined}
+use Rattle.arranging.specs.Order.{rank, cornerKey, edgeKey, edgeAtMost, layerKey, layerAtMost}
+use Rattle.arranging.specs.Arranged.{turned, turnedCorner, edge, fromEarlier, plain, inOrder, symmetric, sheet, exchanged, lesserFirst, arranged}
+
+abbrev one : ℕ
+one = 0x3ff0_0000_0000_0000
+
+abbrev two : ℕ
+two = 0x4000_0000_0000_0000
+
+abbrev minusOne : ℕ
+minusOne = 0xbff0_0000_0000_0000
+
+abbrev minusZero : ℕ
+minusZero = 0x8000_0000_0000_0000
+
+abbrev at : ℕ → ℕ → Corner
+at x y = record { x = x; y = y }
+
+-- ---- an edge
+
+zero-turned : plain (edge 7 (at minusZero one) (at one minusZero)) ≡ edge 7 (at 0 one) (at one 0)
+unfolding plain fromEarlier turnedCorner turned cornerKey rank atMost
+zero-turned = refl
+
+from-the-earlier-end : plain (edge 7 (at two 0) (at one 0)) ≡ edge 7 (at one 0) (at two 0)
+unfolding plain fromEarlier turnedCorner turned cornerKey rank atMost
+from-the-earlier-end = refl
+
+-- below zero the greater bits are the lesser number
+negative-first : plain (edge 7 (at one 0) (at minusOne 0)) ≡ edge 7 (at minusOne 0) (at one 0)
+unfolding plain fromEarlier turnedCorner turned cornerKey rank atMost
+negative-first = refl
+
+-- ---- a layer
+
+by-ring-alone : inOrder (edge 2 (at 0 0) (at one 0) ∷ edge 1 (at one 0) (at 0 minusZero) ∷ []) ≡ edge 1 (at 0 0) (at one 0) ∷ edge 2 (at 0 0) (at one 0) ∷ []
+unfolding inOrder sort insert edgeAtMost edgeKey plain fromEarlier turnedCorner turned cornerKey rank atMost
+by-ring-alone = refl
+
+equal-stay : inOrder (edge 1 (at 0 0) (at one 0) ∷ edge 1 (at one 0) (at 0 0) ∷ []) ≡ edge 1 (at 0 0) (at one 0) ∷ edge 1 (at 0 0) (at one 0) ∷ []
+unfolding inOrder sort insert edgeAtMost edgeKey plain fromEarlier turnedCorner turned cornerKey rank atMost
+equal-stay = refl
+
+-- ---- a sheet
+
+abbrev right : List Edge
+right = edge 1 (at one 0) (at two 0) ∷ []
+
+abbrev leftmost : List Edge
+leftmost = edge 1 (at 0 0) (at one 0) ∷ []
+
+lesser-first : arranged (sheet Intersection right leftmost) ≡ sheet Intersection leftmost right
+unfolding arranged lesserFirst exchanged symmetric layerAtMost layerKey joined inOrder sort insert edgeKey plain fromEarlier turnedCorner turned cornerKey rank atMost
+lesser-first = refl
+
+difference-kept : arranged (sheet Difference right leftmost) ≡ sheet Difference right leftmost
+unfolding arranged lesserFirst exchanged symmetric inOrder sort insert plain fromEarlier turnedCorner turned cornerKey rank atMost
+difference-kept = refl
+
+-- a layer without edges goes first
+none-first : arranged (sheet Intersection right []) ≡ sheet Intersection [] right
+unfolding arranged lesserFirst exchanged symmetric layerAtMost layerKey joined inOrder sort insert edgeKey plain fromEarlier turnedCorner turned cornerKey rank atMost
+none-first = refl

@@ -1,0 +1,15 @@
+-- Laws of arranging.
+pub mod Ranks
+pub mod Keys
+pub mod Plain
+pub mod InOrder
+pub mod Same
+pub mod Sheets
+pub mod Promised
+pub mod Earlier
+pub mod KeyRows
+pub mod Each
+pub mod RowsInOrder
+pub mod Chosen
+pub mod Rowed
+pub mod Examples
