@@ -9,3 +9,4 @@ pub mod Outlines
 pub mod Lengths
 pub mod Room
 pub mod Insured
+pub mod OneMap

@@ -18,7 +18,8 @@ use Rattle.sheet.specs.Stored.{endsOf, labelsOf, leave}
 use Rattle.sheet.specs.Stored as Stored
 use Rattle.sheet.proofs.Sheets.{describes}
 use Rattle.overlay_work.specs.declared.Overlaid.the-variants.{Refused}
-use Rattle.overlay_work.specs.Overlay.{Work, Stopped, After, left, put, work, overlay, noEnds, noLabels, endsIn, labelsIn, overlayEdges, overlaySheet, afterReading}
+use Rattle.overlay_work.specs.Overlay.{Work, After, left, put, noEnds, noLabels, endsIn, labelsIn, overlayEdges, overlaySheet, afterReading}
+use Rattle.overlay_work.specs.Told.{toldCount, toldTo}
 
 -- ---- the arrays
 
@@ -46,59 +47,65 @@ module _ (s : Sheet) (f : Fits s) where
       let n : count ≡ length (labelsIn s) = omega (arith, length-append (map (labelsOf 1) (s .subject)) (map (labelsOf 0) (s .clip)), length-map (s .subject) (labelsOf 1), length-map (s .clip) (labelsOf 0)) in
       first-are noLabels (labelsIn s) count n (omega (arith, f .few, labels-room))
 
--- ---- what reading leaves
+-- ---- what a reading leaves
 
--- the work on it, and how many edges it tells
-abbrev toldTo : Told → List (List Float) → List (List ℕ) → Work
-toldTo (Read o a c) ends labels = overlayEdges o (take (a + c) ends) (take (a + c) labels)
-toldTo (NotRead r) ends labels = Stopped r
+-- a sheet that is read fits
+abbrev pub Fitting : Reading → Type 0
+Fitting (Accepted s) = Fits s
+Fitting (R.Refused number line) = Unit {0}
 
-abbrev toldCount : Told → ℕ
-toldCount (Read o a c) = a + c
-toldCount (NotRead r) = 0
+pub read-fits : (b : List ℕ) (r : Reading) → readSheet b ≡ r → Fitting r
+read-fits b (Accepted s) e = describes b s e .1
+read-fits b (R.Refused number line) e = tt
 
 abbrev leftTo : Stored.After → Work
 leftTo x = toldTo (x .answer) (x .ends) (x .labels)
 
-leaves-work : (b : List ℕ) (r : Reading) → readSheet b ≡ r → leftTo (leave r noEnds noLabels) ≡ afterReading r
-unfolding leave afterReading overlaySheet
-leaves-work b (Accepted s) e = let f = describes b s e .1 in rw (ends-are s f, labels-are s f)
-leaves-work b (R.Refused number line) e = refl
+leaves-work : (r : Reading) → Fitting r → leftTo (leave r noEnds noLabels) ≡ afterReading r
+unfolding leave afterReading overlaySheet toldTo
+leaves-work (Accepted s) f = rw (ends-are s f, labels-are s f)
+leaves-work (R.Refused number line) f = refl
 
-leaves-few : (b : List ℕ) (r : Reading) → readSheet b ≡ r → toldCount (leave r noEnds noLabels .answer) ≤ mostEdges
-unfolding leave
-leaves-few b (Accepted s) e = describes b s e .1 .few
-leaves-few b (R.Refused number line) e = omega arith
+leaves-few : (r : Reading) → Fitting r → toldCount (leave r noEnds noLabels .answer) ≤ mostEdges
+unfolding leave toldCount
+leaves-few (Accepted s) f = f .few
+leaves-few (R.Refused number line) f = omega arith
 
 leaves-room : (r : Reading) → (length (leave r noEnds noLabels .ends) ≡ mostEdges) × (length (leave r noEnds noLabels .labels) ≡ mostEdges)
 unfolding leave
 leaves-room (Accepted s) = (length-sets noEnds 0 (endsIn s) ∙ ends-room, length-sets noLabels 0 (labelsIn s) ∙ labels-room)
 leaves-room (R.Refused number line) = (ends-room, labels-room)
 
-module _ (b : List ℕ) (x : Told) (es es₀ : List (List Float)) (ls ls₀ : List (List ℕ)) (h : es₀ ≡ noEnds) (k : ls₀ ≡ noLabels) (e : Stored.left x es ls ≡ leave (readSheet b) es₀ ls₀) where
-  left-is : Stored.left x es ls ≡ leave (readSheet b) noEnds noLabels
-  left-is = e ∙ ap (λ (y : List (List Float)). leave (readSheet b) y ls₀) h ∙ ap (leave (readSheet b) noEnds) k
+module _ (r : Reading) (f : Fitting r) (x : Told) (es es₀ : List (List Float)) (ls ls₀ : List (List ℕ)) (h : es₀ ≡ noEnds) (k : ls₀ ≡ noLabels) (e : Stored.left x es ls ≡ leave r es₀ ls₀) where
+  left-is : Stored.left x es ls ≡ leave r noEnds noLabels
+  left-is = e ∙ ap (λ (y : List (List Float)). leave r y ls₀) h ∙ ap (leave r noEnds) k
 
-  works : (y : Told) → x ≡ y → toldTo y es ls ≡ work b
-  unfolding work
-  works y f = ap (λ (z : Told). toldTo z es ls) (sym f) ∙ ap leftTo left-is ∙ leaves-work b (readSheet b) refl
+  few : toldCount x ≤ mostEdges
+  few =
+      let n : toldCount x ≡ toldCount (leave r noEnds noLabels .answer) = ap (λ (y : Stored.After). toldCount (y .answer)) left-is in
+      omega (arith, n, leaves-few r f)
 
-  pub unread : (out : List ℕ) (r : Refusal) → x ≡ NotRead r → left (Refused r) out ≡ overlay b out
-  unfolding put overlay
-  unread out r f = ap (λ (w : Work). put w out) (works (NotRead r) f)
+  -- its edges are within the arrays
+  pub within : (toldCount x ≤ length es) × (toldCount x ≤ length ls)
+  within =
+      let room = leaves-room r in
+      (omega (arith, few, ap (λ (y : Stored.After). length (y .ends)) left-is, room .0), omega (arith, few, ap (λ (y : Stored.After). length (y .labels)) left-is, room .1))
 
-  module _ (o : Operation) (a c : ℕ) (f : x ≡ Read o a c) where
-    few : a + c ≤ mostEdges
-    few =
-        let n : a + c ≡ toldCount (leave (readSheet b) noEnds noLabels .answer) = ap toldCount (sym f) ∙ ap (λ (y : Stored.After). toldCount (y .answer)) left-is in
-        omega (arith, n, leaves-few b (readSheet b) refl)
+  -- the work on it is that of the reading
+  pub works : toldTo x es ls ≡ afterReading r
+  works = ap leftTo left-is ∙ leaves-work r f
 
-    pub ends-within : a + c ≤ length es
-    ends-within = omega (arith, few, ap (λ (y : Stored.After). length (y .ends)) left-is, leaves-room (readSheet b) .0)
+-- ---- which answer it was
 
-    pub labels-within : a + c ≤ length ls
-    labels-within = omega (arith, few, ap (λ (y : Stored.After). length (y .labels)) left-is, leaves-room (readSheet b) .1)
+pub counted : (x : Told) (o : Operation) (a c n : ℕ) → x ≡ Read o a c → toldCount x ≤ n → a + c ≤ n
+unfolding toldCount
+counted x o a c n e h = rw e at h
 
-    pub read-on : (out : List ℕ) (y : After) → y ≡ put (overlayEdges o (take (a + c) es) (take (a + c) ls)) out → y ≡ overlay b out
-    unfolding overlay
-    read-on out y g = g ∙ ap (λ (w : Work). put w out) (works (Read o a c) f)
+module _ (x : Told) (es : List (List Float)) (ls : List (List ℕ)) (out : List ℕ) where
+  pub told-refused : (q : Refusal) → x ≡ NotRead q → left (Refused q) out ≡ put (toldTo x es ls) out
+  unfolding toldTo put
+  told-refused q e = rw e
+
+  pub told-read : (o : Operation) (a c : ℕ) → x ≡ Read o a c → (y : After) → y ≡ put (overlayEdges o (take (a + c) es) (take (a + c) ls)) out → y ≡ put (toldTo x es ls) out
+  unfolding toldTo
+  told-read o a c e y g = rw e g

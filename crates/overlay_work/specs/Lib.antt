@@ -2,3 +2,5 @@
 pub mod Overlay
 pub mod Answer
 pub mod Insured
+pub mod Arranged
+pub mod Told

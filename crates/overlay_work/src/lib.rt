@@ -1,7 +1,12 @@
 // Overlay's work (01, 'The sheet'): from the bytes of a sheet to the bytes of its contours.
 ghost use mathlib.Core.Path.{_≡_};
+ghost use Prim.Native.Nat.{_≤_};
+ghost use lib.ListN.{length};
 ghost use Rattle.overlay_work.specs.Overlay.{poolPlaces, fewPlaces, left, put, isFull, answered, overlayEdgesIn, overlayEdges};
 ghost use Rattle.overlay_work.specs.Overlay as Spec;
+ghost use Rattle.overlay_work.specs.Told.{toldCount, toldTo};
+ghost use Rattle.overlay_work.specs.Arranged.{overlayArranged};
+use arranging::read_arranged;
 use class::Operation;
 use places::few_marks;
 use places::few_points;
@@ -104,13 +109,12 @@ fn overlay_edges(
     overlaid
 }
 
-// Prints the contours of a sheet into the lent bytes, which stay as lent where it is refused.
-pub fn overlay(bytes: &[u8], out: &mut [u8]) -> Overlaid
-    ensures { λ r. ⌜ left r (now (out .exit)) ≡ Spec.overlay (now (bytes .entry)) (now (out .entry)) ⌝ }
+// What was read is in the first places of the arrays, or is refused.
+fn overlay_told(told: Told, ends: &[[f64; 4]], labels: &[[u32; 2]], out: &mut [u8]) -> Overlaid
+    requires { ⌜ (toldCount told ≤ length (now ends)) × (toldCount told ≤ length (now labels)) ⌝ }
+    ensures { λ r. ⌜ left r (now (out .exit)) ≡ put (toldTo told (now (ends .entry)) (now (labels .entry))) (now (out .entry)) ⌝ }
 {
-    let mut ends = no_ends();
-    let mut labels = no_labels();
-    match read_sheet(bytes, &mut ends, &mut labels) {
+    match told {
         Told::Refused(refusal) => Overlaid::Refused(refusal),
         Told::Read(operation, subject, clip) => {
             let n = subject as usize + clip as usize;
@@ -119,7 +123,27 @@ pub fn overlay(bytes: &[u8], out: &mut [u8]) -> Overlaid
     }
 }
 
-// The same, and a refusal's line where it is refused: what the program prints.
+// Prints the contours of a sheet into the lent bytes, which stay as lent where it is refused.
+pub fn overlay(bytes: &[u8], out: &mut [u8]) -> Overlaid
+    ensures { λ r. ⌜ left r (now (out .exit)) ≡ Spec.overlay (now (bytes .entry)) (now (out .entry)) ⌝ }
+{
+    let mut ends = no_ends();
+    let mut labels = no_labels();
+    let told = read_sheet(bytes, &mut ends, &mut labels);
+    overlay_told(told, &ends, &labels, out)
+}
+
+// The same of the sheet put in order, so that one drawing has one map however it was saved.
+pub fn overlay_arranged(bytes: &[u8], out: &mut [u8]) -> Overlaid
+    ensures { λ r. ⌜ left r (now (out .exit)) ≡ overlayArranged (now (bytes .entry)) (now (out .entry)) ⌝ }
+{
+    let mut ends = no_ends();
+    let mut labels = no_labels();
+    let told = read_arranged(bytes, &mut ends, &mut labels);
+    overlay_told(told, &ends, &labels, out)
+}
+
+// What the program prints: the contours, or a refusal's line.
 pub fn answer(bytes: &[u8], out: &mut [u8]) -> usize
     ensures { λ r. ⌜ answered r (now (out .exit)) ≡ Spec.answer (now (bytes .entry)) (now (out .entry)) ⌝ }
 {
