@@ -157,6 +157,45 @@ uint64_t bezorika_overlay(const uint8_t *bytes, size_t bytes_length,
                           uint8_t *out, size_t out_length,
                           uint64_t *length, uint64_t *place);
 
+/* Puts a sheet in its own order, in place: minus zeros become zeros, each edge
+   runs from its earlier end (by x, then y), the edges of each layer are listed
+   by first end, second end and ring, and of an intersection, a union or an xor
+   the lesser layer is the subject. Numbers go by their bits, in IEEE 754's
+   totalOrder, so what can be read can be arranged, not-a-numbers too. Every way
+   of saving one drawing gives the same bytes (proved: `one-text`): sheets may
+   differ in the order of lines within a layer, the direction of edges, the sign
+   of zeros and, but for a difference, in which layer is which. To arrange
+   again changes nothing (`twice`).
+
+   Returns 0: the bytes are the arranged sheet, as many as they were.
+   Returns 10 or 1: they are no sheet, and as lent; *place is the line.
+
+   The room above, arranged:
+
+       uint8_t drawing[sizeof sheet];
+       memcpy(drawing, sheet, sizeof sheet);
+       number = bezorika_arrange(drawing, sizeof sheet - 1, &place);
+
+   Then number is 0, and the lines of the three edges are
+
+       0 0000000000000000 0000000000000000 0000000000000000 4000000000000000
+       0 0000000000000000 0000000000000000 4000000000000000 0000000000000000
+       0 0000000000000000 4000000000000000 4000000000000000 0000000000000000 */
+uint64_t bezorika_arrange(uint8_t *bytes, size_t bytes_length, uint64_t *place);
+
+/* What bezorika_overlay answers of the arranged bytes, in one call; the bytes
+   themselves stay as lent. So one drawing has one map, however it was saved.
+   Bytes that are no sheet are refused as bezorika_overlay refuses them. Where a
+   place is an edge (2 and 3) or a record (6 to 9), it is the arranged sheet's.
+
+       number = bezorika_overlay_arranged((const uint8_t *)sheet, sizeof sheet - 1,
+                                          map, sizeof map, &length, &place);
+
+   Here number is 0 and length 181 again. */
+uint64_t bezorika_overlay_arranged(const uint8_t *bytes, size_t bytes_length,
+                                   uint8_t *out, size_t out_length,
+                                   uint64_t *length, uint64_t *place);
+
 #ifdef __cplusplus
 }
 #endif

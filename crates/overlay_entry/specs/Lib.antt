@@ -1,2 +1,2 @@
--- What overlay's work tells a C caller.
+-- What overlay's work and arranging tell a C caller.
 pub mod Told

@@ -1,0 +1,2 @@
+-- Laws of the program's buffer.
+pub mod Buffers
