@@ -3,9 +3,10 @@ use super::boolean::Operation;
 use super::contours::{by_the_rust, Theirs};
 use super::entries::Refused;
 use super::events::{Event, Numbers};
-use super::texts::{map_text, operation_word, LAYERS};
+use super::texts::{map_text, operation_word};
 use super::{clean, sweep, OPERATIONS};
 use inputs::sheets::{Edge, Sheet};
+use inputs::texts::LAYERS;
 
 /// Edges of a sheet and places of its pool.
 const MAX_EDGES: usize = 256;

@@ -20,6 +20,7 @@ use entries::{Bridge, Swept};
 use events::Event;
 use inputs::random::Random;
 use inputs::sheets::{self, Edge};
+use inputs::texts::sheet_text;
 use maps::Expected;
 
 /// Places of the pool that most runs are lent.
@@ -127,7 +128,7 @@ fn compare_sheet(i: u64, sheet: &[Edge], operation: Operation, known: Option<Str
         return;
     }
     let in_order = texts::in_order(sheet);
-    let ours = bridge.overlay(texts::sheet_text(&in_order, operation).as_bytes(), texts::ROOM);
+    let ours = bridge.overlay(sheet_text(&in_order, texts::operation_word(operation)).as_bytes(), texts::ROOM);
     let theirs = match known {
         Some(text) => Expected { answer: Ok(text), by: maps::By::Subdivide },
         None => maps::expected(&in_order, operation),

@@ -1,14 +1,12 @@
-//! A whole sheet beside the Rust's contours, text against text (01, 'The sheet'), both written here.
+//! A whole sheet beside the Rust's contours, text against text (01, 'The sheet'); the sheet's is from `inputs`, the map's is written here.
 use super::boolean::leaves::Contour;
 use super::boolean::Operation;
 use super::entries::Refused;
 use inputs::sheets::{Edge, Sheet};
-use std::fmt::Write;
+use inputs::texts::{bits, LAYERS};
 
 /// More than the text of any map takes.
 pub const ROOM: u32 = 1 << 16;
-
-pub const LAYERS: [(&str, bool); 2] = [("subject", true), ("clip", false)];
 
 pub fn is_alike(ours: &Result<String, Refused>, theirs: &Result<String, Refused>) -> bool {
     match (ours, theirs) {
@@ -26,25 +24,9 @@ pub fn operation_word(operation: Operation) -> &'static str {
     }
 }
 
-fn bits(numbers: &[f64]) -> String {
-    numbers.iter().map(|x| format!("{:016x}", x.to_bits())).collect::<Vec<_>>().join(" ")
-}
-
 /// The edges as a sheet lists them, subject first: their records have these numbers.
 pub fn in_order(sheet: &[Edge]) -> Sheet {
     LAYERS.iter().flat_map(|(_, subject)| sheet.iter().filter(|e| e.subject == *subject).copied()).collect()
-}
-
-pub fn sheet_text(sheet: &[Edge], operation: Operation) -> String {
-    let mut text = format!("operation {}\n", operation_word(operation));
-    for (word, subject) in LAYERS {
-        let layer: Vec<&Edge> = sheet.iter().filter(|e| e.subject == subject).collect();
-        writeln!(text, "{word} {}", layer.len()).expect("a string takes it");
-        for e in layer {
-            writeln!(text, "{} {} {}", e.ring, bits(&e.from), bits(&e.to)).expect("a string takes it");
-        }
-    }
-    text
 }
 
 pub fn map_text(contours: &[Contour<f64>]) -> String {

@@ -1,4 +1,4 @@
-/* Sheets through the C entry in buffers that end, and then begin, at a page which may not be touched: a byte read or written
+/* Sheets through the C entries in buffers that end, and then begin, at a page which may not be touched: a byte read or written
    outside stops the program. guarded <SHEETS, each after its length in 4 bytes. */
 #define _DEFAULT_SOURCE
 #include <bezorika.h>
@@ -59,15 +59,17 @@ static int is_filled(const uint8_t *bytes, size_t n)
     return 1;
 }
 
+typedef uint64_t entry(const uint8_t *, size_t, uint8_t *, size_t, uint64_t *, uint64_t *);
+
 /* Refused, with its place, or 0, with the length of the text; and what must stay as lent has stayed. */
-static uint64_t overlay(size_t n, size_t room, int at_end, uint64_t *told)
+static uint64_t overlay(entry *call, size_t n, size_t room, int at_end, uint64_t *told)
 {
     uint8_t *sheet = lend(SHEET, n, at_end), *out = lend(OUT, room, at_end);
     uint64_t *length = (uint64_t *)lend(LENGTH, sizeof *length, at_end), *place = (uint64_t *)lend(PLACE, sizeof *place, at_end);
     memcpy(sheet, given, n);
     memset(out, FILL, room);
     *length = *place = 77;
-    uint64_t number = bezorika_overlay(sheet, n, out, room, length, place);
+    uint64_t number = call(sheet, n, out, room, length, place);
     if (memcmp(sheet, given, n) || (number ? *length : *place) != 77 || (number && !is_filled(out, room)))
         stop("a buffer is not as lent");
     *told = number ? *place : *length;
@@ -75,22 +77,38 @@ static uint64_t overlay(size_t n, size_t room, int at_end, uint64_t *told)
 }
 
 /* In no bytes at all, in just as many as the text takes, and in one less; 1 if the sheet has a map. */
-static int watch(size_t n, int at_end)
+static int watch(entry *call, size_t n, int at_end)
 {
     uint64_t wanted, told;
-    if (overlay(n, 0, at_end, &wanted) != 5)
+    if (overlay(call, n, 0, at_end, &wanted) != 5)
         return 0;
-    if (overlay(n, wanted, at_end, &told) != 0 || told != wanted)
+    if (overlay(call, n, wanted, at_end, &told) != 0 || told != wanted)
         stop("not exactly full");
-    if (overlay(n, wanted - 1, at_end, &told) != 5 || told != wanted)
+    if (overlay(call, n, wanted - 1, at_end, &told) != 5 || told != wanted)
         stop("one short is not told");
     return 1;
+}
+
+/* In place; what is no sheet is refused as overlay refuses it, and stays as lent. 1 if it is a sheet. */
+static int watch_arrange(size_t n, int at_end)
+{
+    uint64_t at, number = overlay(bezorika_overlay, n, 0, at_end, &at);
+    int is_sheet = number != 1 && number != 10;
+    uint8_t *sheet = lend(SHEET, n, at_end);
+    uint64_t *place = (uint64_t *)lend(PLACE, sizeof *place, at_end);
+    memcpy(sheet, given, n);
+    *place = 77;
+    if (bezorika_arrange(sheet, n, place) != (is_sheet ? 0 : number) || *place != (is_sheet ? 77 : at))
+        stop("arrange refuses as overlay does not");
+    if (!is_sheet && memcmp(sheet, given, n))
+        stop("what is not arranged is not as lent");
+    return is_sheet;
 }
 
 int main(void)
 {
     uint32_t n;
-    int sheets = 0, maps = 0;
+    int sheets = 0, maps = 0, arranged = 0;
     signal(SIGSEGV, outside);
     for (int buffer = 0; buffer < BUFFERS; buffer++) {
         guard(buffer);
@@ -100,10 +118,13 @@ int main(void)
     while (fread(&n, sizeof n, 1, stdin) == 1) {
         if (n > MOST || fread(given, 1, n, stdin) != n)
             stop("no sheet");
-        maps += watch(n, 1);
-        watch(n, 0);
+        for (int at_end = 0; at_end < 2; at_end++) {
+            maps += watch(bezorika_overlay, n, at_end);
+            watch(bezorika_overlay_arranged, n, at_end);
+            arranged += watch_arrange(n, at_end);
+        }
         sheets++;
     }
-    printf("guarded: %d sheets, %d with a map, no byte outside touched\n", sheets, maps);
-    return maps == 0;
+    printf("guarded: %d sheets, %d with a map, %d arranged, no byte outside touched\n", sheets, maps / 2, arranged / 2);
+    return maps == 0 || arranged == 0;
 }

@@ -43,6 +43,21 @@ impl Plan {
         }
     }
 
+    /// The same drawing saved in another way: its edges in another order, each from either end.
+    pub fn shuffled(&self) -> Plan {
+        let mut random = Random(SEED);
+        let mut sheet = self.sheet.clone();
+        for i in (1..sheet.len()).rev() {
+            sheet.swap(i, random.below(i as u64 + 1) as usize);
+        }
+        for edge in &mut sheet {
+            if random.one_in(2) {
+                (edge.from, edge.to) = (edge.to, edge.from);
+            }
+        }
+        Plan { name: self.name, sheet }
+    }
+
     /// The text that `overlay` reads.
     pub fn text(&self) -> Vec<u8> {
         let mut text = String::from("operation union\n");

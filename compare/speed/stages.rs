@@ -53,6 +53,15 @@ extern "C" {
         length: &mut u64,
         place: &mut u64,
     ) -> u64;
+    fn bezorika_overlay_arranged(
+        bytes: *const u8,
+        bytes_length: usize,
+        out: *mut u8,
+        out_length: usize,
+        length: &mut u64,
+        place: &mut u64,
+    ) -> u64;
+    fn bezorika_arrange(bytes: *mut u8, bytes_length: usize, place: &mut u64) -> u64;
 }
 
 const UNION: u32 = 2;
@@ -183,6 +192,25 @@ pub fn overlay(bytes: &[u8], out: &mut [u8]) -> u64 {
     };
     answered(code, place);
     length
+}
+
+/// The same of the sheet put in order.
+pub fn overlay_arranged(bytes: &[u8], out: &mut [u8]) -> u64 {
+    let (mut length, mut place) = (0, 0);
+    // SAFETY: each length is that of its own array.
+    let code = unsafe {
+        bezorika_overlay_arranged(bytes.as_ptr(), bytes.len(), out.as_mut_ptr(), out.len(), &mut length, &mut place)
+    };
+    answered(code, place);
+    length
+}
+
+/// A sheet put in order, in its own bytes.
+pub fn arrange(bytes: &mut [u8]) {
+    let mut place = 0;
+    // SAFETY: the length is that of the array.
+    let code = unsafe { bezorika_arrange(bytes.as_mut_ptr(), bytes.len(), &mut place) };
+    answered(code, place);
 }
 
 /// A plan that is refused says nothing about speed.

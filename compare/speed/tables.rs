@@ -2,7 +2,7 @@
 use crate::clock::{at_once, quickest, Way};
 use crate::peers::Rings;
 use crate::plan::{Known, Plan};
-use crate::stages::{overlay, Stages};
+use crate::stages::{arrange, overlay, overlay_arranged, Stages};
 use crate::{calls, published, wrapped, LARGEST, SEED, SHEET};
 use inputs::plans::{APART, CROSSING};
 use std::cell::RefCell;
@@ -18,6 +18,7 @@ const OUT: usize = 1 << 16;
 pub fn print() -> bool {
     calls::print(SEED);
     let mut alike = sheets();
+    alike &= arranging();
     let crossing = CROSSING.iter().flat_map(|(name, family)| ARRAYS.map(|edges| Plan::of(name, *family, edges)));
     let apart = APART.iter().map(|(name, family)| Plan::of(name, *family, APART_EDGES));
     let plans: Vec<Plan> = crossing.chain(apart).collect();
@@ -89,6 +90,37 @@ fn sheets() -> bool {
             let [bytes, ours, rust, wrapped] = times;
             row(&plan, &known, &times, &[bytes / rust, ours / rust, ours / wrapped]);
             alike &= known.alike;
+        }
+    }
+    alike
+}
+
+/// Each sheet's lines are shuffled, for what is in order is sooner put in order.
+fn arranging() -> bool {
+    head(
+        "Arranging, microseconds: a sheet with its lines shuffled, laid over, arranged, arranged and laid over in one call",
+        &[
+            "family", "edges", "divisions", "largest status", "laid over", "arranged", "both in one call", "arranged / laid over",
+            "both / laid over",
+        ],
+    );
+    let mut alike = true;
+    for (name, family) in CROSSING {
+        for edges in SHEETS {
+            let plan = Plan::of(name, *family, edges);
+            let known = plan.known(SHEET);
+            let text = plan.shuffled().text();
+            let (mut plain, mut one, mut two) = (vec![0; OUT], vec![0; OUT], vec![0; OUT]);
+            let sheet = RefCell::new(text.clone());
+            let times = quickest([
+                at_once(|| _ = black_box(overlay(&text, &mut plain))),
+                Way { prepare: Box::new(|| sheet.borrow_mut().copy_from_slice(&text)), run: Box::new(|| arrange(&mut sheet.borrow_mut())) },
+                at_once(|| _ = black_box(overlay_arranged(&text, &mut one))),
+            ]);
+            let [over, arranged, both] = times;
+            row(&plan, &known, &times, &[arranged / over, both / over]);
+            let length = overlay(&sheet.borrow(), &mut two) as usize;
+            alike &= one[..length] == two[..length] && sheet.into_inner() != text;
         }
     }
     alike
