@@ -4,6 +4,7 @@ pub mod Keys
 pub mod Plain
 pub mod InOrder
 pub mod Same
+pub mod Symmetric
 pub mod Sheets
 pub mod Promised
 pub mod Earlier

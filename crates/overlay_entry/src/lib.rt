@@ -73,9 +73,9 @@ pub extern "C" fn bezorika_arrange(bytes: &mut [u8], place: &mut u64) -> u64
 {
     match arrange(bytes) {
         Outcome::Done => 0,
-        Outcome::Refused(why) => {
-            *place = why.place;
-            why.number
+        Outcome::Refused(refusal) => {
+            *place = refusal.place;
+            refusal.number
         }
     }
 }

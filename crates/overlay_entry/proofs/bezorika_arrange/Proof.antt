@@ -12,7 +12,7 @@ returns c = rw (← c .before .before .before .before .arrange .ensures, c .enum
 
 returns-2 : tie.Need-returns-2
 unfolding numberOf valuesOf arrangedPlace
-returns-2 c = rw (← c .before .before .before .before .before .arrange .ensures, c .before .why .given .1) (refl, (refl, refl))
+returns-2 c = rw (← c .before .before .before .before .before .arrange .ensures, c .before .refusal .given .1) (refl, (refl, refl))
 
 pub bezorika-arrange-spec : {M : Type 1} → statement M
 bezorika-arrange-spec =
