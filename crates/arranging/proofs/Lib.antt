@@ -13,4 +13,6 @@ pub mod Each
 pub mod RowsInOrder
 pub mod Chosen
 pub mod Rowed
+pub mod Heights
+pub mod Values
 pub mod Examples
