@@ -1,7 +1,13 @@
 -- Small sheets that compute. By bits: 1 is 0x3ff0.., 2 is 0x4000.., minus 1 is 0xbff0.., minus zero is 0x8000...
 use mathlib.Core.Path.{_≡_, refl}
+use mathlib.Core.Bool.{true≢false}
 use mathlib.Core.List.{List, [], _∷_}
 use Prim.Native.Nat.{ℕ}
+use lib.Ieee.{fits, lt, le, eq, neg, ofBits}
+use Rattle.numbers.specs.Binary64.{unsigned, unfit}
+use Rattle.numbers.specs.Points.{unsignedPoint}
+use Rattle.events.specs.Coordinates.{same}
+use Rattle.events.specs.Binary64.{atBinary64}
 use Rattle.class.specs.declared.Operation.the-variants.{Intersection, Difference}
 use Rattle.contours.specs.Result.{insert, sort}
 use Rattle.sheet.specs.declared.edges.Corner.{Corner}
@@ -9,6 +15,7 @@ use Rattle.sheet.specs.declared.edges.Edge.{Edge}
 use Rattle.sorting.specs.Rows.{atMost, joined}
 use Rattle.arranging.specs.Order.{rank, cornerKey, edgeKey, edgeAtMost, layerKey, layerAtMost}
 use Rattle.arranging.specs.Arranged.{turned, turnedCorner, edge, fromEarlier, plain, inOrder, symmetric, sheet, exchanged, lesserFirst, arranged}
+use Rattle.arranging.specs.Earlier.{pointOf, Loads}
 
 abbrev one : ℕ
 one = 0x3ff0_0000_0000_0000
@@ -39,6 +46,15 @@ from-the-earlier-end = refl
 negative-first : plain (edge 7 (at one 0) (at minusOne 0)) ≡ edge 7 (at minusOne 0) (at one 0)
 unfolding plain fromEarlier turnedCorner turned cornerKey rank atMost
 negative-first = refl
+
+-- an edge that loads, and one that does not: minus zero and zero are one point
+loads : Loads (edge 7 (at minusZero one) (at one 0))
+unfolding pointOf unsignedPoint unsigned atBinary64 same unfit fits lt le eq neg ofBits
+loads = record { from = refl; to = refl; apart = refl }
+
+not-apart : Loads (edge 7 (at minusZero one) (at 0 one)) → ⊥
+unfolding pointOf unsignedPoint unsigned atBinary64 same eq ofBits
+not-apart h = true≢false (h .apart)
 
 -- ---- a layer
 

@@ -26,7 +26,7 @@ any l = all-of Any l (λ e m. tt)
 
 -- ---- what fits
 
-fit-each : (l : List Edge) → AllFit l → All EdgeFits l
+pub fit-each : (l : List Edge) → AllFit l → All EdgeFits l
 fit-each [] h = tt
 fit-each (e ∷ l) h = (h .0, fit-each l (h .1))
 

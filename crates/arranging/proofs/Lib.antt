@@ -15,4 +15,5 @@ pub mod Chosen
 pub mod Rowed
 pub mod Heights
 pub mod Values
+pub mod LeftEnds
 pub mod Examples

@@ -19,7 +19,7 @@ use Rattle.arranging.proofs.InOrder.{in-order-fits, in-order-many, in-o
 use Rattle.arranging.proofs.Same.{drawing-meets}
 
 -- what holds of both, where the operation does not ask which layer is which
-either-layer : (P : Sheet → Type 0) (o : Operation) (l m : List Edge) → P (sheet o l m) → (symmetric o ≡ true → P (sheet o m l)) → P (lesserFirst o l m)
+pub either-layer : (P : Sheet → Type 0) (o : Operation) (l m : List Edge) → P (sheet o l m) → (symmetric o ≡ true → P (sheet o m l)) → P (lesserFirst o l m)
 unfolding lesserFirst exchanged
 either-layer P o l m h k = go (symmetric o) (layerAtMost l m) k
   where

@@ -15,7 +15,7 @@ use Rattle.numbers.proofs.Place.{shift, place, lt-place, eq-place}
 use Rattle.numbers.proofs.Patterns.{sizeOf, infinite, size-grows, size-none, pattern-finite, pattern-size}
 use Rattle.arranging.specs.Order.{signBit, rank}
 use Rattle.arranging.specs.Arranged.{turned}
-use Rattle.arranging.proofs.Ranks.{Word, rank-injective, turned-small}
+use Rattle.arranging.proofs.Ranks.{Word, rank-injective, turned-small, turned-twice}
 use Rattle.arranging.proofs.Heights.{height, size-infinite, Number, heights}
 
 abbrev number : ℕ → Float
@@ -167,3 +167,17 @@ unsigned-turned w h = go (eqb w signBit) refl
     go : (b : Bool) → eqb w signBit ≡ b → unsigned (number w) ≡ number (cond b 0 w)
     go true p = rw (eqb-true w signBit p) minus-zero
     go false p = kept w h (rw p)
+
+-- so numbers compare in the points that loading stores
+pub record StoredByValue (v w : ℕ) : Type 0 where
+  pub less : lt (unsigned (number v)) (unsigned (number w)) ≡ ltb (rank (turned v)) (rank (turned w))
+  pub equal : eq (unsigned (number v)) (unsigned (number w)) ≡ eqb (rank (turned v)) (rank (turned w))
+
+pub stored-in-order : (v w : ℕ) → Word v → Word w → isNan (unsigned (number v)) ≡ false → isNan (unsigned (number w)) ≡ false → StoredByValue v w
+stored-in-order v w h k m n =
+    let p = unsigned-turned v h in
+    let q = unsigned-turned w k in
+    let c = in-order (turned v) (turned w) (turned-small v h) (turned-small w k) (sym (ap isNan p) ∙ m) (sym (ap isNan q) ∙ n) in
+    let less = c .less in
+    let equal = c .equal in
+    record { less = rw (p, q, less, turned-twice v, turned-twice w); equal = rw (p, q, equal, turned-twice v, turned-twice w) }

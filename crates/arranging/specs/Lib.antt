@@ -2,6 +2,7 @@
 pub mod Order
 pub mod Arranged
 pub mod Drawing
+pub mod Earlier
 pub mod Arrange
 pub mod Answer
 pub mod Steps
