@@ -1,22 +1,19 @@
 -- Two layers' rows in order, whichever goes first, are the arranged sheet, in bytes and in the form that loading takes.
-use mathlib.Core.Path.{_≡_, refl, sym, ap, _∙_}
+use mathlib.Core.Path.{_≡_, ap}
 use mathlib.Core.Bool.{Bool, true, false, not, cond, _&&_}
-use mathlib.Core.List.{List, _++_, map}
+use mathlib.Core.List.{List, map}
 use Prim.Native.Nat.{ℕ}
-use native.Mathlib.Omega.{arith}
 use lib.Ieee.{Float}
 use lib.ListN.{length, length-map}
 use lib.Seq.{sets}
 use Rattle.class.specs.declared.Operation.{Operation}
 use Rattle.sheet.specs.declared.edges.Edge.{Edge}
-use Rattle.sheet.specs.Sheet.{Sheet, AllFit, Fits}
+use Rattle.sheet.specs.Sheet.{AllFit}
 use Rattle.sheet.specs.Reading.{Accepted}
-use Rattle.sheet.specs.Stored.{rowOf, endsOf, labelsOf, endsOfRow, labelsOfRow, After, leave}
+use Rattle.sheet.specs.Stored.{rowOf, endsOf, labelsOf, endsOfRow, labelsOfRow, leave}
 use Rattle.sheet.proofs.Puts.{put-both}
 use Rattle.sheet.proofs.Stored.{ends-of-rows, labels-of-rows}
 use Rattle.printing.specs.Rows.{sheetOfRows}
-use Rattle.sorting.specs.Rows.{atMost, joined}
-use Rattle.arranging.specs.Order.{layerAtMost}
 use Rattle.arranging.specs.Arranged.{symmetric, sheet, exchanged, lesserFirst, arranged, inOrder}
 use Rattle.arranging.specs.Steps.{keysInOrder, rowsInOrder, clipFirst, sheetInOrder, stored, storedInOrder}
 use Rattle.arranging.proofs.InOrder.{in-order-fits}

@@ -18,7 +18,7 @@ use Rattle.sheet.specs.Stored.{rowOf, leftRows, leaveRows, AfterRows}
 use Rattle.sheet.specs.Stored as Stored
 use Rattle.sheet.proofs.Sheets.{describes}
 use Rattle.arranging.specs.declared.Outcome.the-variants.{Done, Refused}
-use Rattle.arranging.specs.Arranged.{sheet, arranged}
+use Rattle.arranging.specs.Arranged.{arranged}
 use Rattle.arranging.specs.Arrange.{left, leave, arrange, arrangedReading}
 use Rattle.arranging.specs.Steps.{sheetInOrder, storedInOrder}
 use Rattle.arranging.proofs.Sheets.{same-length}

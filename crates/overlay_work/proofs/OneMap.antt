@@ -5,7 +5,7 @@ use Prim.Native.Nat.{ℕ}
 use Rattle.sheet.specs.Reading.{Reading, Accepted, readSheet}
 use Rattle.sheet.specs.Reading as R
 use Rattle.sheet.proofs.Sheets.{describes}
-use Rattle.arranging.specs.Arrange.{arrange, arrangedReading}
+use Rattle.arranging.specs.Arrange.{arrangedReading}
 use Rattle.arranging.specs.Arrange as Arrange
 use Rattle.arranging.proofs.Sheets as Sheets
 use Rattle.arranging.proofs.Promised.{arranges}
