@@ -2,6 +2,7 @@
 pub mod Stores
 pub mod Matching
 pub mod Writing
+pub mod Bytes
 pub mod Reading
 pub mod Patterns
 pub mod Back

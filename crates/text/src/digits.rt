@@ -34,16 +34,17 @@ fn digit_byte(d: u64) -> u8
     (b'a' - 10) + b
 }
 
-// Stores the last `count` digits of w from `at` on, the last one first.
+// Stores the last `count` digits of w from `at` on, the last one first. To look a byte up costs less than to choose between the two runs of digits.
 fn put_digits(buf: &mut [u8], at: usize, base: u64, count: usize, w: u64)
     requires { ⌜ (1 < base) × (base ≤ 16) ⌝ }
     ensures { λ _. ⌜ now (buf .exit) ≡ sets (now (buf .entry)) at (digits base count w) ⌝ }
 {
+    let bytes = *b"0123456789abcdef";
     let mut k = count;
     let mut v = w;
     while k > 0 {
         k -= 1;
-        let d = digit_byte(v % base);
+        let d = bytes[(v % base) as usize];
         put_byte(buf, at, k, d);
         v = v / base;
     }
