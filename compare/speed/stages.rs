@@ -183,26 +183,25 @@ fn area_of(corners: &[[f64; 2]]) -> f64 {
     twice.abs() / 2.0
 }
 
-/// A sheet's bytes to its map's bytes; how many there are.
-pub fn overlay(bytes: &[u8], out: &mut [u8]) -> u64 {
+/// An entry that takes a sheet's bytes to its map's.
+type Entry = unsafe extern "C" fn(*const u8, usize, *mut u8, usize, &mut u64, &mut u64) -> u64;
+
+fn laid_over(entry: Entry, bytes: &[u8], out: &mut [u8]) -> u64 {
     let (mut length, mut place) = (0, 0);
     // SAFETY: each length is that of its own array.
-    let code = unsafe {
-        bezorika_overlay(bytes.as_ptr(), bytes.len(), out.as_mut_ptr(), out.len(), &mut length, &mut place)
-    };
+    let code = unsafe { entry(bytes.as_ptr(), bytes.len(), out.as_mut_ptr(), out.len(), &mut length, &mut place) };
     answered(code, place);
     length
 }
 
+/// A sheet's bytes to its map's bytes; how many there are.
+pub fn overlay(bytes: &[u8], out: &mut [u8]) -> u64 {
+    laid_over(bezorika_overlay, bytes, out)
+}
+
 /// The same of the sheet put in order.
 pub fn overlay_arranged(bytes: &[u8], out: &mut [u8]) -> u64 {
-    let (mut length, mut place) = (0, 0);
-    // SAFETY: each length is that of its own array.
-    let code = unsafe {
-        bezorika_overlay_arranged(bytes.as_ptr(), bytes.len(), out.as_mut_ptr(), out.len(), &mut length, &mut place)
-    };
-    answered(code, place);
-    length
+    laid_over(bezorika_overlay_arranged, bytes, out)
 }
 
 /// A sheet put in order, in its own bytes.

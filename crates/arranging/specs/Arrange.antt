@@ -28,7 +28,7 @@ leave (Reading.Refused number line) bytes = left (Refused (record { number = num
 unfoldable pub arrange : List ℕ → After
 arrange bytes = leave (readSheet bytes) bytes
 
--- what reads as a sheet, and as what it then reads
+-- how the bytes read that it leaves
 unfoldable pub arrangedReading : Reading → Reading
 arrangedReading (Accepted s) = Accepted (arranged s)
 arrangedReading (Reading.Refused number line) = Reading.Refused number line

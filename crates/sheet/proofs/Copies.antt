@@ -33,16 +33,16 @@ module _ {A : Type 0} (z : A) (b whole : List A) (i : ℕ) (rows : List A) (inv 
 -- ---- the answer decides
 
 -- a sheet that was accepted, and how many edges each layer has
-record Was (b : List ℕ) (o : Operation) (n m : ℕ) : Type 0 where
-  sheet : Sheet
-  accepted : readSheet b ≡ Accepted sheet
-  operation : o ≡ sheet .operation
-  subject : n ≡ length (sheet .subject)
-  clip : m ≡ length (sheet .clip)
-  fits : Fits sheet
+pub record Was (b : List ℕ) (o : Operation) (n m : ℕ) : Type 0 where
+  pub sheet : Sheet
+  pub accepted : readSheet b ≡ Accepted sheet
+  pub operation : o ≡ sheet .operation
+  pub subject : n ≡ length (sheet .subject)
+  pub clip : m ≡ length (sheet .clip)
+  pub fits : Fits sheet
 
 module _ (b : List ℕ) (x : Told) (h : x ≡ told (readSheet b)) where
-  was-refused : (q : Refusal) → x ≡ ToldRefused q → readSheet b ≡ Refused (q .number) (q .place)
+  pub was-refused : (q : Refusal) → x ≡ ToldRefused q → readSheet b ≡ Refused (q .number) (q .place)
   was-refused q e = go (readSheet b) (sym e ∙ h)
     where
       go : (r : Reading) → ToldRefused q ≡ told r → r ≡ Refused (q .number) (q .place)
@@ -59,7 +59,7 @@ module _ (b : List ℕ) (x : Told) (h : x ≡ told (readSheet b)) where
   left-refused q e ends labels = rw (was-refused q e)
 
   module _ (o : Operation) (n m : ℕ) (e : x ≡ Read o n m) where
-    was : Was b o n m
+    pub was : Was b o n m
     was = go (readSheet b) refl (sym e ∙ h)
       where
         go : (r : Reading) → readSheet b ≡ r → Read o n m ≡ told r → Was b o n m
