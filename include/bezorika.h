@@ -9,7 +9,9 @@
            *place says which, counted from 0 in the order of the arguments,
            the lowest if there are several
 
-   An output that is not named below for a case is left as it was lent. The
+   An output that is not named below for a case is left as it was lent, to the
+   bit: an array of double is to these calls an array of 64-bit words, so that
+   a not-a-number in it keeps its sign, payload and signalling bit. The
    pointers must be valid and must not overlap. No entry keeps a pointer,
    allocates, or touches anything but its outputs. Each length is the
    number of elements that its pointer leads to. Nothing checks this header

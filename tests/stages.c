@@ -54,10 +54,28 @@ static void keep(void)
     memcpy(taken_lent, taken, sizeof taken);
 }
 
-static void fill(void)
+/* Coordinates are lent as words: quiet and signalling not-a-numbers of either sign with payloads, an infinity, minus zero, and a plain number.
+   None of them may change where nothing is written. */
+static const uint64_t words[7] = {0x7ff800000000002a, 0x7ff0000000000001, 0xfff0000000000001, 0xffffffffffffffff, 0x7ff0000000000000,
+    0x8000000000000000, 0xc01e000000000000};
+
+static void put(double *at, uint64_t word)
+{
+    memcpy(at, &word, sizeof word);
+}
+
+static void fill_points(double (*points)[2])
 {
     for (size_t i = 0; i < SIZE; i++) {
-        pool.points[i][0] = pool.points[i][1] = -7.5;
+        put(&points[i][0], words[i % 7]);
+        put(&points[i][1], words[(i / 7 + 3) % 7]);
+    }
+}
+
+static void fill(void)
+{
+    fill_points(pool.points);
+    for (size_t i = 0; i < SIZE; i++) {
         for (size_t k = 0; k < 12; k++)
             pool.marks[i][k] = filler;
         taken[i] = filler;
@@ -149,17 +167,20 @@ static void loading_sizes(void)
 static void loading_numbers(void)
 {
     const double far = 0x1p100, further = nextafter(0x1p100, INFINITY);
-    const double wrong[] = {further, -further, INFINITY, -INFINITY, NAN};
+    const double wrong[] = {further, -further, -INFINITY};
     no_edges();
     edge(1, 0, -far, far, far, -far);
     fill();
     EXPECT(load(8) == 0 && used == 2 && pool.points[0][0] == -far);
-    for (int k = 0; k < 5; k++)
+    for (int k = 0; k < 8; k++)
         for (int j = 0; j < 4; j++) {
             no_edges();
             edge(1, 0, 0, 0, 1, 1);
             edge(1, 0, 0, 0, 1, 1);
-            edges.ends[1][j] = wrong[k];
+            if (k < 5)
+                put(&edges.ends[1][j], words[k]);
+            else
+                edges.ends[1][j] = wrong[k - 5];
             fill();
             EXPECT(load(8) == 2 && place == 1 && as_lent());
         }
@@ -254,6 +275,14 @@ static void sweep_records(void)
     pool.marks[2][3] = 0;
     keep();
     EXPECT(sweep(0, 64) == 2 && place == 7 && as_lent());
+    /* a word of each kind that is not finite, in use: refused, and as lent to the bit */
+    for (int k = 0; k < 5; k++)
+        for (int j = 0; j < 2; j++) {
+            loaded_squares();
+            put(&pool.points[9][j], words[k]);
+            keep();
+            EXPECT(sweep(0, 64) == 2 && place == 9 && as_lent());
+        }
     loaded_squares();
     pool.points[16][0] = NAN; /* not loaded, so not looked at */
     keep();
@@ -436,8 +465,8 @@ static uint32_t contours[SIZE][6], contours_lent[SIZE][6], holes[SIZE], holes_le
 
 static void fill_outlines(void)
 {
+    fill_points(corners);
     for (size_t i = 0; i < SIZE; i++) {
-        corners[i][0] = corners[i][1] = -7.5;
         for (size_t k = 0; k < 6; k++)
             contours[i][k] = filler;
         holes[i] = filler;
@@ -667,6 +696,12 @@ static void connect_partners(void)
     two_loaded(0, 2);
     pool.marks[1][3] = 3;
     EXPECT(connect_with(2, 3, NAN, 4) == 2 && place == 3 && all_as_lent());
+    /* every kind of word that is not finite */
+    for (int k = 0; k < 5; k++) {
+        two_loaded(0, 99);
+        put(&pool.points[0][1], words[k]);
+        EXPECT(connect_with(1, 1, 1, 1) == 2 && place == 0 && all_as_lent());
+    }
     /* nobody's partner */
     two_loaded(0, 99);
     pool.points[3][0] = NAN;

@@ -12,7 +12,7 @@ use checks::records::mate;
 use checks::sizes::places;
 
 // The same check with one more record looked at.
-fn unfit_also(points: &[[f64; 2]], marks: &[[u32; 12]], n: usize, told: Check, r: u32) -> Check
+fn unfit_also(points: &[[u64; 2]], marks: &[[u32; 12]], n: usize, told: Check, r: u32) -> Check
     ensures { λ x. ⌜ x ≡ toldAlso told 2 r (unfitAt atBinary64 (rowAt (pool (now (points .entry)) (now (marks .entry)))) n r) ⌝ }
 {
     told_also(
@@ -23,7 +23,7 @@ fn unfit_also(points: &[[f64; 2]], marks: &[[u32; 12]], n: usize, told: Check, r
     )
 }
 
-pub fn check_fit(points: &[[f64; 2]], marks: &[[u32; 12]], list: &[u32]) -> Check
+pub fn check_fit(points: &[[u64; 2]], marks: &[[u32; 12]], list: &[u32]) -> Check
     ensures { λ r. ⌜ r ≡ toldUnfit (pool (now (points .entry)) (now (marks .entry))) (now (list .entry)) ⌝ }
 {
     let n = places(points, marks);

@@ -24,7 +24,7 @@ pub fn number_of(flaw: Flaw) -> u64
 }
 
 // Refusal 4: a mistake of the record, or it is listed twice.
-fn is_misplaced(points: &[[f64; 2]], marks: &[[u32; 12]], seen: &[u32], r: u32) -> bool
+fn is_misplaced(points: &[[u64; 2]], marks: &[[u32; 12]], seen: &[u32], r: u32) -> bool
     ensures { λ x. ⌜ x ≡ misplacedSeen (pool (now (points .entry)) (now (marks .entry))) (now (seen .entry)) r ⌝ }
 {
     let n = places(points, marks);
@@ -35,7 +35,7 @@ fn is_misplaced(points: &[[f64; 2]], marks: &[[u32; 12]], seen: &[u32], r: u32) 
 }
 
 // Refusal 8: in the result, and its other end is not listed.
-fn is_half_listed(points: &[[f64; 2]], marks: &[[u32; 12]], seen: &[u32], r: u32) -> bool
+fn is_half_listed(points: &[[u64; 2]], marks: &[[u32; 12]], seen: &[u32], r: u32) -> bool
     ensures { λ x. ⌜ x ≡ halfSeen (pool (now (points .entry)) (now (marks .entry))) (now (seen .entry)) r ⌝ }
 {
     if in_result(points, marks, r) {
@@ -45,7 +45,7 @@ fn is_half_listed(points: &[[f64; 2]], marks: &[[u32; 12]], seen: &[u32], r: u32
     false
 }
 
-pub fn is_flawed(points: &[[f64; 2]], marks: &[[u32; 12]], seen: &[u32], flaw: Flaw, r: u32) -> bool
+pub fn is_flawed(points: &[[u64; 2]], marks: &[[u32; 12]], seen: &[u32], flaw: Flaw, r: u32) -> bool
     ensures { λ x. ⌜ x ≡ flawed (pool (now (points .entry)) (now (marks .entry))) (now (seen .entry)) flaw r ⌝ }
 {
     match flaw {

@@ -38,7 +38,7 @@ fn is_refused(check: Check) -> bool
 
 // 2, 4, 8 and 5, where `seen` tells how often each record is listed.
 fn check_list(
-    points: &[[f64; 2]],
+    points: &[[u64; 2]],
     marks: &[[u32; 12]],
     seen: &[u32],
     list: &[u32],
@@ -65,7 +65,7 @@ fn check_list(
 
 // By a tally in places where nothing is noted yet, one for each record of the pool.
 fn check_in(
-    points: &[[f64; 2]],
+    points: &[[u64; 2]],
     marks: &[[u32; 12]],
     list: &[u32],
     corners: usize,
@@ -82,7 +82,7 @@ fn check_in(
 
 // With places for a small pool.
 fn check_few(
-    points: &[[f64; 2]],
+    points: &[[u64; 2]],
     marks: &[[u32; 12]],
     list: &[u32],
     corners: usize,
@@ -98,7 +98,7 @@ fn check_few(
 
 // With places for any pool.
 fn check_many(
-    points: &[[f64; 2]],
+    points: &[[u64; 2]],
     marks: &[[u32; 12]],
     list: &[u32],
     corners: usize,
@@ -114,7 +114,7 @@ fn check_many(
 
 // A list of records of the pool, with so many places for corners, contours and holes.
 pub fn accept(
-    points: &[[f64; 2]],
+    points: &[[u64; 2]],
     marks: &[[u32; 12]],
     list: &[u32],
     corners: usize,

@@ -38,7 +38,7 @@ pub fn told_also(told: Check, number: u64, r: u32, struck: bool) -> Check
 
 // Refused at the lowest record with the flaw.
 pub fn check_flaw(
-    points: &[[f64; 2]],
+    points: &[[u64; 2]],
     marks: &[[u32; 12]],
     seen: &[u32],
     flaw: Flaw,

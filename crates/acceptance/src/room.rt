@@ -36,7 +36,7 @@ fn check_places(events: usize, edges: usize, corners: usize, contours: usize, ho
 
 // For the result events and the result edges of a list.
 pub fn check_room(
-    points: &[[f64; 2]],
+    points: &[[u64; 2]],
     marks: &[[u32; 12]],
     list: &[u32],
     corners: usize,

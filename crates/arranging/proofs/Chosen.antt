@@ -3,7 +3,6 @@ use mathlib.Core.Path.{_≡_, ap}
 use mathlib.Core.Bool.{Bool, true, false, not, cond, _&&_}
 use mathlib.Core.List.{List, map}
 use Prim.Native.Nat.{ℕ}
-use lib.Ieee.{Float}
 use lib.ListN.{length, length-map}
 use lib.Seq.{sets}
 use Rattle.class.specs.declared.Operation.{Operation}
@@ -30,11 +29,11 @@ module _ (o : Operation) (s c s′ c′ : List (List ℕ)) (h : s′ ≡ rowsInO
   unfolding sheetInOrder
   sheet-subject q = rw (← e, q, h, k)
 
-  pub stored-clip : t ≡ true → (ends : List (List Float)) (labels : List (List ℕ)) → stored o c′ s′ ends labels ≡ storedInOrder o s c ends labels
+  pub stored-clip : t ≡ true → (ends labels : List (List ℕ)) → stored o c′ s′ ends labels ≡ storedInOrder o s c ends labels
   unfolding storedInOrder
   stored-clip q ends labels = rw (← e, q, h, k)
 
-  pub stored-subject : t ≡ false → (ends : List (List Float)) (labels : List (List ℕ)) → stored o s′ c′ ends labels ≡ storedInOrder o s c ends labels
+  pub stored-subject : t ≡ false → (ends labels : List (List ℕ)) → stored o s′ c′ ends labels ≡ storedInOrder o s c ends labels
   unfolding storedInOrder
   stored-subject q ends labels = rw (← e, q, h, k)
 
@@ -53,14 +52,14 @@ module _ (o : Operation) (l m : List Edge) (f : AllFit l) (g : AllFit m) where
   unfolding sheetInOrder sheetOfRows arranged lesserFirst
   sheet-in-order = rw (first-is, in-order l f, in-order m g, edges-back (inOrder l), edges-back (inOrder m))
 
-stored-is : (o : Operation) (l m : List Edge) → AllFit l → AllFit m → (ends : List (List Float)) (labels : List (List ℕ)) → stored o (map rowOf l) (map rowOf m) ends labels ≡ leave (Accepted (sheet o l m)) ends labels
+stored-is : (o : Operation) (l m : List Edge) → AllFit l → AllFit m → (ends labels : List (List ℕ)) → stored o (map rowOf l) (map rowOf m) ends labels ≡ leave (Accepted (sheet o l m)) ends labels
 unfolding stored leave
 stored-is o l m f g ends labels =
     let e = put-both endsOf endsOf ends _ _ l m (length (map rowOf l)) (length-map l rowOf) (ap (sets ends 0) (ends-of-rows l)) (ap (sets (sets ends 0 (map endsOfRow (map rowOf l))) (length (map rowOf l))) (ends-of-rows m)) in
     let n = put-both (labelsOf 1) (labelsOf 0) labels _ _ l m (length (map rowOf l)) (length-map l rowOf) (ap (sets labels 0) (labels-of-rows 1 l f)) (ap (sets (sets labels 0 (map (labelsOfRow 1) (map rowOf l))) (length (map rowOf l))) (labels-of-rows 0 m g)) in
     rw (e, n, length-map l rowOf, length-map m rowOf)
 
-module _ (o : Operation) (l m : List Edge) (f : AllFit l) (g : AllFit m) (ends : List (List Float)) (labels : List (List ℕ)) where
+module _ (o : Operation) (l m : List Edge) (f : AllFit l) (g : AllFit m) (ends labels : List (List ℕ)) where
   pub stored-in-order : storedInOrder o (map rowOf l) (map rowOf m) ends labels ≡ leave (Accepted (arranged (sheet o l m))) ends labels
   unfolding storedInOrder arranged lesserFirst
   stored-in-order = rw (first-is o l m f g, in-order o l m f g l f, in-order o l m f g m g) (go (exchanged o (inOrder l) (inOrder m)))

@@ -6,10 +6,11 @@ use native.Mathlib.Decide.{decLt}
 use native.Mathlib.Omega.{arith}
 use borrow.Author.Tests.{eqb-true, eqb-false, lt-ltb, le-ltb, eq-eqb, ne-eqb, le-leb, lt-leb}
 use lib.Dec.{leb, ltb, eqb}
+use Rattle.numbers.specs.Next.{minusZero}
+use Rattle.numbers.specs.Words.{unsignedWord}
 use Rattle.numbers.proofs.Place.{shift}
 use Rattle.numbers.proofs.Patterns.{sizeAt, sizeOf, infinite, size-grows, size-keeps, size-none}
 use Rattle.arranging.specs.Order.{signBit, rank}
-use Rattle.arranging.specs.Arranged.{turned}
 use Rattle.arranging.proofs.Ranks.{Word, rank-plus, rank-minus, rank-injective}
 
 unfoldable pub height : ℕ → ℕ
@@ -50,31 +51,33 @@ higher v w h k n l = go (decLt v signBit) (decLt w signBit)
         let most = size-keeps (v - signBit) infinite (omega (arith, h .word, h .number)) in
         omega (arith, height-minus v (h .word) (omega arith), height-minus w (k .word) (omega arith), size-infinite)
 
-not-minus-zero : (w : ℕ) → turned w ≡ signBit → ⊥
-unfolding turned
-not-minus-zero w e = go (eqb w signBit) refl e
+not-minus-zero : (w : ℕ) → unsignedWord w ≡ signBit → ⊥
+unfolding unsignedWord
+not-minus-zero w e = go (eqb (w % minusZero) 0) refl e
   where
-    go : (b : Bool) → eqb w signBit ≡ b → cond b 0 w ≡ signBit → ⊥
+    go : (b : Bool) → eqb (w % minusZero) 0 ≡ b → cond b 0 w ≡ signBit → ⊥
     go true p q = omega arith
-    go false p q = eqb-false w signBit p q
+    go false p q = eqb-false (w % minusZero) 0 p (omega arith)
 
-turned-number : (w : ℕ) → Number w → Number (turned w)
-unfolding turned
-turned-number w h = go (eqb w signBit)
+unsigned-number : (w : ℕ) → Number w → Number (unsignedWord w)
+unfolding unsignedWord
+unsigned-number w h = go (eqb (w % minusZero) 0)
   where
     go : (b : Bool) → Number (cond b 0 w)
     go true = record { word = omega arith; number = omega arith }
     go false = h
 
 -- either zero is in the middle
-turned-height : (w : ℕ) → height (turned w) ≡ height w
-unfolding turned
-turned-height w = go (eqb w signBit) refl
+unsigned-height : (w : ℕ) → height (unsignedWord w) ≡ height w
+unfolding unsignedWord height
+unsigned-height w = go (eqb (w % minusZero) 0) refl
   where
-    go : (b : Bool) → eqb w signBit ≡ b → height (cond b 0 w) ≡ height w
-    go true p =
-        let e = eqb-true w signBit p in
-        rw e (omega (arith, height-plus 0 (omega arith), height-minus signBit (omega arith) (omega arith), size-none))
+    middle : (b : Bool) → shift + 0 ≡ cond b (shift - 0) (shift + 0)
+    middle true = omega arith
+    middle false = refl
+
+    go : (b : Bool) → eqb (w % minusZero) 0 ≡ b → height (cond b 0 w) ≡ height w
+    go true p = let none : w % 2 ^ 63 ≡ 0 = eqb-true (w % minusZero) 0 p in rw (none, size-none) (middle (leb (2 ^ 63) w))
     go false p = refl
 
 -- two tests that agree with two others, where one order is the other
@@ -92,13 +95,13 @@ tests a b c d less same more = go (decLt a b) (decLt b a)
         let l = same (omega arith) in
         (le-ltb c d (omega arith) ∙ sym (le-ltb a b (omega arith)), eq-eqb c d l ∙ sym (eq-eqb a b (omega arith)))
 
-pub heights : (v w : ℕ) → Number v → Number w → (ltb (height v) (height w) ≡ ltb (rank (turned v)) (rank (turned w))) × (eqb (height v) (height w) ≡ eqb (rank (turned v)) (rank (turned w)))
+pub heights : (v w : ℕ) → Number v → Number w → (ltb (height v) (height w) ≡ ltb (rank (unsignedWord v)) (rank (unsignedWord w))) × (eqb (height v) (height w) ≡ eqb (rank (unsignedWord v)) (rank (unsignedWord w)))
 heights v w h k =
-    let p = turned-number v h in
-    let q = turned-number w k in
-    let i = turned-height v in
-    let j = turned-height w in
-    tests (rank (turned v)) (rank (turned w)) (height v) (height w)
-    (λ l. rw (i, j) at (higher (turned v) (turned w) p q (not-minus-zero v) l))
-    (λ e. rw (i, j) at (ap height (rank-injective (turned v) (turned w) (p .word) (q .word) e)))
-    (λ l. rw (i, j) at (higher (turned w) (turned v) q p (not-minus-zero w) l))
+    let p = unsigned-number v h in
+    let q = unsigned-number w k in
+    let i = unsigned-height v in
+    let j = unsigned-height w in
+    tests (rank (unsignedWord v)) (rank (unsignedWord w)) (height v) (height w)
+    (λ l. rw (i, j) at (higher (unsignedWord v) (unsignedWord w) p q (not-minus-zero v) l))
+    (λ e. rw (i, j) at (ap height (rank-injective (unsignedWord v) (unsignedWord w) (p .word) (q .word) e)))
+    (λ l. rw (i, j) at (higher (unsignedWord w) (unsignedWord v) q p (not-minus-zero w) l))

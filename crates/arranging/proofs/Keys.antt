@@ -1,7 +1,7 @@
 -- What an edge is put in order by tells the edge, and so with layers.
 use mathlib.Core.Path.{_≡_, refl, sym, ap, _∙_}
 use mathlib.Core.List.{List, [], _∷_, cons≢nil}
-use Rattle.sheet.specs.declared.edges.Corner.{Corner}
+use Rattle.numbers.specs.declared.Point.{Point}
 use Rattle.sheet.specs.declared.edges.Edge.{Edge}
 use Rattle.sheet.specs.Sheet.{CornerFits, EdgeFits, AllFit}
 use Rattle.sheet.specs.Stored.{rowOf, edgeOfRow}
@@ -13,7 +13,7 @@ use Rattle.arranging.proofs.Ranks.{word-back, rank-injective}
 
 -- ---- corners and edges
 
-pub corner-told : (p q : Corner) → CornerFits p → CornerFits q → cornerKey p ≡ cornerKey q → p ≡ q
+pub corner-told : (p q : Point) → CornerFits p → CornerFits q → cornerKey p ≡ cornerKey q → p ≡ q
 unfolding cornerKey
 corner-told p q h k e = rw (rank-injective (p .x) (q .x) (h .x) (k .x) cc, rank-injective (p .y) (q .y) (h .y) (k .y) cc)
 

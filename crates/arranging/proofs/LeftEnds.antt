@@ -7,25 +7,22 @@ use native.Mathlib.Decide.{decLt}
 use native.Mathlib.Omega.{arith}
 use borrow.Author.Tests.{leb-true, eqb-false, lt-ltb, le-ltb, eq-eqb}
 use lib.Dec.{ltb, eqb}
-use lib.Ieee.{Float, isNan}
-use Rattle.numbers.specs.Binary64.{unfit}
-use Rattle.numbers.specs.Points.{unsignedPoint}
-use Rattle.numbers.proofs.Units.{fit-finite}
+use Rattle.numbers.specs.declared.Point.{Point}
+use Rattle.numbers.specs.Words.{unsignedWord}
 use Rattle.events.specs.Coordinates.{same, ahead}
-use Rattle.events.specs.Binary64.{atBinary64}
+use Rattle.events.specs.Binary64.{atBinary64, asLoaded}
 use Rattle.contours.proofs.Lists.{All, all-map, all-mem, all-perm}
-use Rattle.sheet.specs.declared.edges.Corner.{Corner}
 use Rattle.sheet.specs.declared.edges.Edge.{Edge}
 use Rattle.sheet.specs.Sheet.{Sheet, CornerFits, EdgeFits, AllFit, Fits}
 use Rattle.sheet.proofs.Sheets.{describes}
 use Rattle.sorting.specs.Rows.{atMost}
 use Rattle.sorting.proofs.Order.{total}
 use Rattle.arranging.specs.Order.{rank, cornerKey}
-use Rattle.arranging.specs.Arranged.{turned, turnedCorner, edge, fromEarlier, plain, inOrder, arranged}
-use Rattle.arranging.specs.Earlier.{pointOf, FirstIsLeft, LeftFirst}
-use Rattle.arranging.proofs.Ranks.{turned-twice}
-use Rattle.arranging.proofs.Values.{finite-number, stored-in-order}
-use Rattle.arranging.proofs.Plain.{turned-fits}
+use Rattle.arranging.specs.Arranged.{edge, fromEarlier, plain, inOrder, arranged}
+use Rattle.arranging.specs.Earlier.{FirstIsLeft, LeftFirst}
+use Rattle.arranging.proofs.Ranks.{unsigned-twice}
+use Rattle.arranging.proofs.Values.{stored-in-order}
+use Rattle.arranging.proofs.Plain.{loaded-fits}
 use Rattle.arranging.proofs.InOrder.{fit-each, in-order-is}
 use Rattle.arranging.proofs.Sheets.{either-layer}
 use Rattle.arranging.proofs.Earlier.{first-more, first-same}
@@ -45,36 +42,31 @@ module _ (a b c d : ℕ) where
           let differ = eqb-false b d other in
           rw (le-ltb a c (omega arith), le-ltb c a (omega arith), lt-ltb b d (omega arith))
 
--- ---- a point that refusal 2 does not strike has numbers
+-- ---- two ends in order
 
 both : (a b : Bool) → (not a && not b) ≡ true → (a ≡ false) × (b ≡ false)
 both true b h = absurd (false≢true h)
 both false true h = absurd (false≢true h)
 both false false h = (refl, refl)
 
-fit-number : (x : Float) → unfit x ≡ false → isNan x ≡ false
-fit-number x h = finite-number x (fit-finite x h)
-
--- ---- two ends in order
-
-left-first : (ring : ℕ) (p q : Corner) → CornerFits p → CornerFits q → atMost (cornerKey (turnedCorner p)) (cornerKey (turnedCorner q)) ≡ true → FirstIsLeft (edge ring p q)
-unfolding cornerKey turnedCorner pointOf unsignedPoint same ahead atBinary64
+left-first : (ring : ℕ) (p q : Point) → CornerFits p → CornerFits q → atMost (cornerKey (asLoaded p)) (cornerKey (asLoaded q)) ≡ true → FirstIsLeft (edge ring p q)
+unfolding cornerKey asLoaded same ahead atBinary64
 left-first ring p q h k l loads =
     let i = both _ _ (loads .from) in
     let j = both _ _ (loads .to) in
-    let x = stored-in-order (p .x) (q .x) (h .x) (k .x) (fit-number _ (i .0)) (fit-number _ (j .0)) in
-    let back = stored-in-order (q .x) (p .x) (k .x) (h .x) (fit-number _ (j .0)) (fit-number _ (i .0)) in
-    let y = stored-in-order (p .y) (q .y) (h .y) (k .y) (fit-number _ (i .1)) (fit-number _ (j .1)) in
-    let apart : (eqb (rank (turned (p .x))) (rank (turned (q .x))) && eqb (rank (turned (p .y))) (rank (turned (q .y)))) ≡ false = rw (x .equal, y .equal) at (loads .apart) in
-    rw (x .less, back .less, y .less) (strictly (rank (turned (p .x))) (rank (turned (p .y))) (rank (turned (q .x))) (rank (turned (q .y))) l apart)
+    let x = stored-in-order (p .x) (q .x) (h .x) (k .x) (i .0) (j .0) in
+    let back = stored-in-order (q .x) (p .x) (k .x) (h .x) (j .0) (i .0) in
+    let y = stored-in-order (p .y) (q .y) (h .y) (k .y) (i .1) (j .1) in
+    let apart : (eqb (rank (unsignedWord (p .x))) (rank (unsignedWord (q .x))) && eqb (rank (unsignedWord (p .y))) (rank (unsignedWord (q .y)))) ≡ false = rw (x .equal, y .equal) at (loads .apart) in
+    rw (x .less, back .less, y .less) (strictly (rank (unsignedWord (p .x))) (rank (unsignedWord (p .y))) (rank (unsignedWord (q .x))) (rank (unsignedWord (q .y))) l apart)
 
-turned-corner-twice : (p : Corner) → turnedCorner (turnedCorner p) ≡ turnedCorner p
-unfolding turnedCorner
-turned-corner-twice p = rw (turned-twice (p .x), turned-twice (p .y))
+loaded-twice : (p : Point) → asLoaded (asLoaded p) ≡ asLoaded p
+unfolding asLoaded
+loaded-twice p = rw (unsigned-twice (p .x), unsigned-twice (p .y))
 
 -- ---- an edge, a layer, a sheet
 
-from-left : (ring : ℕ) (p q : Corner) → CornerFits p → CornerFits q → turnedCorner p ≡ p → turnedCorner q ≡ q → FirstIsLeft (fromEarlier ring p q)
+from-left : (ring : ℕ) (p q : Point) → CornerFits p → CornerFits q → asLoaded p ≡ p → asLoaded q ≡ q → FirstIsLeft (fromEarlier ring p q)
 unfolding fromEarlier
 from-left ring p q h k s t = go (atMost (cornerKey p) (cornerKey q)) refl
   where
@@ -85,8 +77,8 @@ from-left ring p q h k s t = go (atMost (cornerKey p) (cornerKey q)) refl
 pub plain-left : (e : Edge) → EdgeFits e → FirstIsLeft (plain e)
 unfolding plain
 plain-left e h =
-    from-left (e .ring) (turnedCorner (e .from)) (turnedCorner (e .to)) (turned-fits (e .from) (h .from)) (turned-fits (e .to) (h .to))
-    (turned-corner-twice (e .from)) (turned-corner-twice (e .to))
+    from-left (e .ring) (asLoaded (e .from)) (asLoaded (e .to)) (loaded-fits (e .from) (h .from)) (loaded-fits (e .to) (h .to))
+    (loaded-twice (e .from)) (loaded-twice (e .to))
 
 layer-left : (l : List Edge) → AllFit l → All FirstIsLeft (inOrder l)
 layer-left l h = all-perm FirstIsLeft (in-order-is l) (all-map plain EdgeFits FirstIsLeft plain-left l (fit-each l h))

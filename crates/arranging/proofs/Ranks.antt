@@ -1,13 +1,14 @@
 -- A word's place in totalOrder tells the word, and minus zero is turned once.
 use mathlib.Core.Path.{_≡_, refl, sym, ap, _∙_}
 use mathlib.Core.Bool.{Bool, true, false, cond}
-use Prim.Native.Nat.{ℕ, _+_, _-_, _≤_, _<_}
+use Prim.Native.Nat.{ℕ, _+_, _-_, _%_, _≤_, _<_}
 use native.Mathlib.Decide.{decLt}
 use native.Mathlib.Omega.{arith}
 use borrow.Author.Tests.{lt-ltb, le-ltb}
 use lib.Dec.{eqb}
+use Rattle.numbers.specs.Next.{minusZero}
+use Rattle.numbers.specs.Words.{unsignedWord}
 use Rattle.arranging.specs.Order.{signBit, rank}
-use Rattle.arranging.specs.Arranged.{turned}
 use Rattle.arranging.specs.Steps.{wordOf}
 
 abbrev pub Word : ℕ → Type 0
@@ -43,18 +44,18 @@ rank-injective v w h k e = sym (word-back v h) ∙ ap wordOf e ∙ word-back w k
 
 -- ---- minus zero
 
-pub turned-small : (w : ℕ) → Word w → Word (turned w)
-unfolding turned
-turned-small w h = go (eqb w signBit)
+pub unsigned-small : (w : ℕ) → Word w → Word (unsignedWord w)
+unfolding unsignedWord
+unsigned-small w h = go (eqb (w % minusZero) 0)
   where
     go : (b : Bool) → Word (cond b 0 w)
     go true = omega arith
     go false = h
 
-pub turned-twice : (w : ℕ) → turned (turned w) ≡ turned w
-unfolding turned
-turned-twice w = go (eqb w signBit) refl
+pub unsigned-twice : (w : ℕ) → unsignedWord (unsignedWord w) ≡ unsignedWord w
+unfolding unsignedWord
+unsigned-twice w = go (eqb (w % minusZero) 0) refl
   where
-    go : (b : Bool) → eqb w signBit ≡ b → turned (cond b 0 w) ≡ cond b 0 w
+    go : (b : Bool) → eqb (w % minusZero) 0 ≡ b → unsignedWord (cond b 0 w) ≡ cond b 0 w
     go true e = refl
     go false e = rw e

@@ -3,7 +3,6 @@ use mathlib.Core.Path.{_≡_, refl, sym, ap, _∙_}
 use mathlib.Core.List.{List, map, append-nil}
 use Prim.Native.Nat.{ℕ, _≤_, _<_}
 use native.Mathlib.Omega.{arith}
-use lib.Ieee.{Float}
 use lib.ListN.{length, take, length-map, drop-of-length-le}
 use lib.Seq.{sets, length-sets, length-take-le}
 use Rattle.lists.proofs.Fronts.{sets-front, first-are}
@@ -39,7 +38,7 @@ module _ (b : List ℕ) (x : Told) (s s₀ k k₀ : List (List ℕ)) (h : leftRo
   unfolding arrange leave
   not-arranged q e = rw (was-refused b x told-is q e)
 
-  pub not-read : (q : Refusal) → x ≡ NotRead q → (ends : List (List Float)) (labels : List (List ℕ)) → Stored.left (NotRead q) ends labels ≡ Stored.leave (arrangedReading (readSheet b)) ends labels
+  pub not-read : (q : Refusal) → x ≡ NotRead q → (ends labels : List (List ℕ)) → Stored.left (NotRead q) ends labels ≡ Stored.leave (arrangedReading (readSheet b)) ends labels
   unfolding arrangedReading Stored.leave
   not-read q e ends labels = rw (was-refused b x told-is q e)
 
@@ -100,7 +99,7 @@ module _ (b : List ℕ) (x : Told) (s s₀ k k₀ : List (List ℕ)) (h : leftRo
         let y : out ≡ written (arranged t) = g ∙ ap (λ (u : Sheet). sets b 0 (written u)) z ∙ whole in
         rw (it .accepted, y)
 
-    pub is-read : (ends : List (List Float)) (labels : List (List ℕ)) (y : Stored.After) → y ≡ storedInOrder o (take a s) (take c k) ends labels → y ≡ Stored.leave (arrangedReading (readSheet b)) ends labels
+    pub is-read : (ends labels : List (List ℕ)) (y : Stored.After) → y ≡ storedInOrder o (take a s) (take c k) ends labels → y ≡ Stored.leave (arrangedReading (readSheet b)) ends labels
     unfolding arrangedReading
     is-read ends labels y g =
         rw (it .accepted) (g ∙ made (λ p l m. storedInOrder p l m ends labels) ∙ stored-in-order (t .operation) (t .subject) (t .clip) (it .fits .subject) (it .fits .clip) ends labels)

@@ -1,7 +1,7 @@
 -- To be one drawing is an equivalence: what is the same as one thing is the same, from numbers up to sheets.
 use mathlib.Core.Path.{refl, sym, ap, _∙_}
 use mathlib.Core.List.{List, [], _∷_, List·Permᴰ, List·Permᴰ·nil, List·Permᴰ·cons, List·Permᴰ·swap, List·Permᴰ·trans, Permᴰ·refl, Permᴰ·symm}
-use Rattle.sheet.specs.declared.edges.Corner.{Corner}
+use Rattle.numbers.specs.declared.Point.{Point}
 use Rattle.sheet.specs.declared.edges.Edge.{Edge}
 use Rattle.sheet.specs.Sheet.{Sheet}
 use Rattle.arranging.specs.Arranged.{symmetric}
@@ -9,7 +9,7 @@ use Rattle.arranging.specs.Drawing.{SameCorner, SameEdge, one-way, other
 
 -- ---- corners and edges
 
-corners : (p q r : Corner) → SameCorner p r → SameCorner q r → SameCorner p q
+corners : (p q r : Point) → SameCorner p r → SameCorner q r → SameCorner p q
 corners p q r h k = record { x = h .x ∙ sym (k .x); y = h .y ∙ sym (k .y) }
 
 edge : (e f g : Edge) → SameEdge e g → SameEdge f g → SameEdge e f

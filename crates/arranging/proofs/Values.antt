@@ -1,21 +1,23 @@
 -- Places in totalOrder are in the order of the numbers by value: minus zero turned, the place is less exactly where the number is, and the same exactly where
 -- the numbers are equal. Infinities stand at both ends; only not-a-numbers are left out, which compare with nothing.
-use mathlib.Core.Path.{_≡_, refl, sym, ap, _∙_}
+use mathlib.Core.Path.{_≡_, refl, sym, _∙_}
 use mathlib.Core.Logic.{_⊎_, inl, inr}
-use mathlib.Core.Bool.{Bool, true, false, not, cond, true≢false, false≢true}
+use mathlib.Core.Bool.{Bool, true, false, not, cond, true≢false}
 use Prim.Native.Nat.{ℕ, _+_, _-_, _/_, _%_, _^_, _≤_, _<_}
 use native.Mathlib.Nat.{eq-or-lt-of-le}
 use native.Mathlib.Omega.{arith}
-use borrow.Author.Tests.{ltb-false, eqb-true, lt-ltb, le-ltb, eq-eqb, ne-eqb}
+use borrow.Author.Tests.{ltb-false, lt-ltb, le-ltb, eq-eqb, ne-eqb}
 use lib.Dec.{leb, ltb, eqb}
 use lib.Ieee.{Float, nan, inf, fin, binary64, isNan, lt, eq, ofBits, ofFields}
-use lib.Ieee.Bits.{nanBits-is, nanBits-above}
-use Rattle.numbers.specs.Binary64.{Finite, notFinite, zero, unsigned}
+use lib.Ieee.Bits.{ofBits-fits, nanBits-is, nanBits-above}
+use Rattle.numbers.specs.Binary64.{Finite, notFinite}
+use Rattle.numbers.specs.Words.{value, unfitWord, unsignedWord}
+use Rattle.numbers.proofs.Units.{fit-finite}
+use Rattle.numbers.proofs.Values.{fit-value}
 use Rattle.numbers.proofs.Place.{shift, place, lt-place, eq-place}
 use Rattle.numbers.proofs.Patterns.{sizeOf, infinite, size-grows, size-none, pattern-finite, pattern-size}
-use Rattle.arranging.specs.Order.{signBit, rank}
-use Rattle.arranging.specs.Arranged.{turned}
-use Rattle.arranging.proofs.Ranks.{Word, rank-injective, turned-small, turned-twice}
+use Rattle.arranging.specs.Order.{rank}
+use Rattle.arranging.proofs.Ranks.{Word, unsigned-small, unsigned-twice}
 use Rattle.arranging.proofs.Heights.{height, size-infinite, Number, heights}
 
 abbrev number : ℕ → Float
@@ -111,8 +113,8 @@ low w h n = record { word = h; number = ltb-false infinite (w % 2 ^ 63) (sym (na
 
 -- exactly where the number of v is less than that of w, and exactly where they are equal
 pub record ByValue (v w : ℕ) : Type 0 where
-  pub less : lt (number v) (number w) ≡ ltb (rank (turned v)) (rank (turned w))
-  pub equal : eq (number v) (number w) ≡ eqb (rank (turned v)) (rank (turned w))
+  pub less : lt (number v) (number w) ≡ ltb (rank (unsignedWord v)) (rank (unsignedWord w))
+  pub equal : eq (number v) (number w) ≡ eqb (rank (unsignedWord v)) (rank (unsignedWord w))
 
 pub in-order : (v w : ℕ) → Word v → Word w → isNan (number v) ≡ false → isNan (number w) ≡ false → ByValue v w
 in-order v w h k m n =
@@ -122,62 +124,27 @@ in-order v w h k m n =
     let c = by-value v w (kind v (p .number)) (kind w (q .number)) (omega (arith, size-grows 0 infinite (omega arith), size-none, size-infinite)) in
     record { less = c .0 ∙ up .0; equal = c .1 ∙ up .1 }
 
-pub finite-number : (x : Float) → Finite x → isNan x ≡ false
+finite-number : (x : Float) → Finite x → isNan x ≡ false
 unfolding notFinite isNan
 finite-number nan h = absurd (true≢false (h .finite))
 finite-number (inf s) h = refl
 finite-number (fin s m e) h = refl
 
--- ---- minus zero is turned as loading turns it
+-- ---- so words compare in the points that loading stores, where refusal 2 strikes neither
 
-compares : (x y : Float) → eq x y ≡ true → isNan x ≡ false
-unfolding eq isNan
-compares nan y e = absurd (false≢true e)
-compares (inf s) y e = refl
-compares (fin s m d) y e = refl
-
-zero-number : isNan zero ≡ false
-unfolding isNan ofBits
-zero-number = refl
-
-minus-zero : unsigned (number signBit) ≡ zero
-unfolding unsigned eq ofBits
-minus-zero = refl
-
-zero-place : turned 0 ≡ 0
-unfolding turned
-zero-place = refl
-
--- no other word is a zero's
-kept : (w : ℕ) → Word w → turned w ≡ w → unsigned (number w) ≡ number w
-unfolding unsigned
-kept w h t = go (eq (number w) zero) refl
-  where
-    go : (b : Bool) → eq (number w) zero ≡ b → cond b zero (number w) ≡ number w
-    go true e =
-        let places = sym (in-order w 0 h (omega arith) (compares (number w) zero e) zero-number .equal) ∙ e in
-        let none = rank-injective (turned w) (turned 0) (turned-small w h) (turned-small 0 (omega arith)) (eqb-true _ _ places) in
-        ap number (sym zero-place ∙ sym none ∙ t)
-    go false e = refl
-
-pub unsigned-turned : (w : ℕ) → Word w → unsigned (number w) ≡ number (turned w)
-unfolding turned
-unsigned-turned w h = go (eqb w signBit) refl
-  where
-    go : (b : Bool) → eqb w signBit ≡ b → unsigned (number w) ≡ number (cond b 0 w)
-    go true p = rw (eqb-true w signBit p) minus-zero
-    go false p = kept w h (rw p)
-
--- so numbers compare in the points that loading stores
 pub record StoredByValue (v w : ℕ) : Type 0 where
-  pub less : lt (unsigned (number v)) (unsigned (number w)) ≡ ltb (rank (turned v)) (rank (turned w))
-  pub equal : eq (unsigned (number v)) (unsigned (number w)) ≡ eqb (rank (turned v)) (rank (turned w))
+  pub less : lt (value (unsignedWord v)) (value (unsignedWord w)) ≡ ltb (rank (unsignedWord v)) (rank (unsignedWord w))
+  pub equal : eq (value (unsignedWord v)) (value (unsignedWord w)) ≡ eqb (rank (unsignedWord v)) (rank (unsignedWord w))
 
-pub stored-in-order : (v w : ℕ) → Word v → Word w → isNan (unsigned (number v)) ≡ false → isNan (unsigned (number w)) ≡ false → StoredByValue v w
+fit-number : (w : ℕ) → unfitWord w ≡ false → isNan (number w) ≡ false
+unfolding unfitWord
+fit-number w h = finite-number (number w) (fit-finite (number w) (ofBits-fits binary64 w) h)
+
+pub stored-in-order : (v w : ℕ) → Word v → Word w → unfitWord (unsignedWord v) ≡ false → unfitWord (unsignedWord w) ≡ false → StoredByValue v w
 stored-in-order v w h k m n =
-    let p = unsigned-turned v h in
-    let q = unsigned-turned w k in
-    let c = in-order (turned v) (turned w) (turned-small v h) (turned-small w k) (sym (ap isNan p) ∙ m) (sym (ap isNan q) ∙ n) in
+    let p = fit-value (unsignedWord v) m in
+    let q = fit-value (unsignedWord w) n in
+    let c = in-order (unsignedWord v) (unsignedWord w) (unsigned-small v h) (unsigned-small w k) (fit-number (unsignedWord v) m) (fit-number (unsignedWord w) n) in
     let less = c .less in
     let equal = c .equal in
-    record { less = rw (p, q, less, turned-twice v, turned-twice w); equal = rw (p, q, equal, turned-twice v, turned-twice w) }
+    record { less = rw (p, q, less, unsigned-twice v, unsigned-twice w); equal = rw (p, q, equal, unsigned-twice v, unsigned-twice w) }

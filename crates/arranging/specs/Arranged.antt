@@ -3,33 +3,27 @@
 use mathlib.Core.Bool.{Bool, true, false, not, cond, _&&_}
 use mathlib.Core.List.{List, map}
 use Prim.Native.Nat.{ℕ}
-use lib.Dec.{eqb}
+use Rattle.numbers.specs.declared.Point.{Point}
+use Rattle.events.specs.Binary64.{asLoaded}
 use Rattle.class.specs.declared.Operation.{Operation}
 use Rattle.class.specs.declared.Operation.the-variants.{Intersection, Difference, Union, Xor}
 use Rattle.contours.specs.Result.{sort}
-use Rattle.sheet.specs.declared.edges.Corner.{Corner}
 use Rattle.sheet.specs.declared.edges.Edge.{Edge}
 use Rattle.sheet.specs.Sheet.{Sheet}
 use Rattle.sorting.specs.Rows.{atMost}
-use Rattle.arranging.specs.Order.{signBit, cornerKey, edgeAtMost, layerAtMost}
+use Rattle.arranging.specs.Order.{cornerKey, edgeAtMost, layerAtMost}
 
 -- ---- an edge
 
--- minus zero is zero
-unfoldable pub turned : ℕ → ℕ
-turned w = cond (eqb w signBit) 0 w
-
-unfoldable pub turnedCorner : Corner → Corner
-turnedCorner p = record { x = turned (p .x); y = turned (p .y) }
-
-abbrev pub edge : ℕ → Corner → Corner → Edge
+abbrev pub edge : ℕ → Point → Point → Edge
 edge ring from to = record { ring = ring; from = from; to = to }
 
-unfoldable pub fromEarlier : ℕ → Corner → Corner → Edge
+unfoldable pub fromEarlier : ℕ → Point → Point → Edge
 fromEarlier ring p q = cond (atMost (cornerKey p) (cornerKey q)) (edge ring p q) (edge ring q p)
 
+-- minus zeros are turned as loading turns them
 unfoldable pub plain : Edge → Edge
-plain e = fromEarlier (e .ring) (turnedCorner (e .from)) (turnedCorner (e .to))
+plain e = fromEarlier (e .ring) (asLoaded (e .from)) (asLoaded (e .to))
 
 -- ---- a layer
 

@@ -4,16 +4,17 @@ use mathlib.Core.Path.{_≡_}
 use mathlib.Core.Bool.{true}
 use mathlib.Core.List.{List, [], _∷_, List·Permᴰ}
 use Prim.Native.Nat.{ℕ}
-use Rattle.sheet.specs.declared.edges.Corner.{Corner}
+use Rattle.numbers.specs.declared.Point.{Point}
+use Rattle.numbers.specs.Words.{unsignedWord}
 use Rattle.sheet.specs.declared.edges.Edge.{Edge}
 use Rattle.sheet.specs.Sheet.{Sheet}
-use Rattle.arranging.specs.Arranged.{turned, symmetric}
+use Rattle.arranging.specs.Arranged.{symmetric}
 
 -- the same bits, or zeros of either sign
 abbrev pub SameNumber : ℕ → ℕ → Type 0
-SameNumber v w = turned v ≡ turned w
+SameNumber v w = unsignedWord v ≡ unsignedWord w
 
-pub record SameCorner (p q : Corner) : Type 0 where
+pub record SameCorner (p q : Point) : Type 0 where
   pub x : SameNumber (p .x) (q .x)
   pub y : SameNumber (p .y) (q .y)
 

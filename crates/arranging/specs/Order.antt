@@ -4,11 +4,11 @@ use mathlib.Core.Bool.{Bool, cond}
 use mathlib.Core.List.{List, [], _∷_, _++_, map}
 use Prim.Native.Nat.{ℕ, _+_, _-_}
 use lib.Dec.{ltb}
-use Rattle.sheet.specs.declared.edges.Corner.{Corner}
+use Rattle.numbers.specs.declared.Point.{Point}
 use Rattle.sheet.specs.declared.edges.Edge.{Edge}
 use Rattle.sorting.specs.Rows.{atMost, joined}
 
--- minus zero, and the least word that has the sign bit
+-- the least word that has the sign bit
 abbrev pub signBit : ℕ
 signBit = 9223372036854775808
 
@@ -16,7 +16,7 @@ signBit = 9223372036854775808
 unfoldable pub rank : ℕ → ℕ
 rank w = cond (ltb w signBit) (signBit + w) (18446744073709551615 - w)
 
-unfoldable pub cornerKey : Corner → List ℕ
+unfoldable pub cornerKey : Point → List ℕ
 cornerKey p = rank (p .x) ∷ rank (p .y) ∷ []
 
 -- whatever more an edge may be told by comes last

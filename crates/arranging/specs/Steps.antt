@@ -3,7 +3,6 @@ use mathlib.Core.Bool.{Bool, not, cond, _&&_}
 use mathlib.Core.List.{List, [], _∷_, map}
 use Prim.Native.Nat.{ℕ, _-_}
 use lib.Dec.{ltb}
-use lib.Ieee.{Float}
 use lib.ListN.{length, getD}
 use lib.Seq.{sets}
 use Rattle.class.specs.declared.Operation.{Operation}
@@ -47,11 +46,11 @@ sheetInOrder o subject clip =
     cond (clipFirst o subject clip) (sheetOfRows o (rowsInOrder clip) (rowsInOrder subject)) (sheetOfRows o (rowsInOrder subject) (rowsInOrder clip))
 
 -- two layers' rows stored in the form that loading takes
-unfoldable pub stored : Operation → List (List ℕ) → List (List ℕ) → List (List Float) → List (List ℕ) → After
+unfoldable pub stored : Operation → List (List ℕ) → List (List ℕ) → List (List ℕ) → List (List ℕ) → After
 stored o a c ends labels =
     left (Read o (length a) (length c)) (sets (sets ends 0 (map endsOfRow a)) (length a) (map endsOfRow c))
     (sets (sets labels 0 (map (labelsOfRow 1) a)) (length a) (map (labelsOfRow 0) c))
 
-unfoldable pub storedInOrder : Operation → List (List ℕ) → List (List ℕ) → List (List Float) → List (List ℕ) → After
+unfoldable pub storedInOrder : Operation → List (List ℕ) → List (List ℕ) → List (List ℕ) → List (List ℕ) → After
 storedInOrder o subject clip ends labels =
     cond (clipFirst o subject clip) (stored o (rowsInOrder clip) (rowsInOrder subject) ends labels) (stored o (rowsInOrder subject) (rowsInOrder clip) ends labels)

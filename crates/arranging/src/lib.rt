@@ -70,7 +70,7 @@ fn store_layers(
     operation: Operation,
     subject: &[[u64; 5]],
     clip: &[[u64; 5]],
-    ends: &mut [[f64; 4]],
+    ends: &mut [[u64; 4]],
     labels: &mut [[u32; 2]],
 ) -> Told
     requires { ⌜ (length (now subject) < 4294967296) × (length (now clip) < 4294967296) ⌝ }
@@ -86,7 +86,7 @@ fn store_arranged(
     operation: Operation,
     subject: &mut [[u64; 5]],
     clip: &mut [[u64; 5]],
-    ends: &mut [[f64; 4]],
+    ends: &mut [[u64; 4]],
     labels: &mut [[u32; 2]],
 ) -> Told
     requires { ⌜ (length (now subject) < 4294967296) × (length (now clip) < 4294967296) ⌝ }
@@ -99,7 +99,7 @@ fn store_arranged(
 }
 
 // The edges of the arranged sheet in the form that loading takes, without its bytes.
-pub fn read_arranged(bytes: &[u8], ends: &mut [[f64; 4]], labels: &mut [[u32; 2]]) -> Told
+pub fn read_arranged(bytes: &[u8], ends: &mut [[u64; 4]], labels: &mut [[u32; 2]]) -> Told
     ensures { λ r. ⌜ Stored.left r (now (ends .exit)) (now (labels .exit)) ≡ Stored.leave (arrangedReading (readSheet (now (bytes .entry)))) (now (ends .entry)) (now (labels .entry)) ⌝ }
 {
     let mut subject = [[0u64; 5]; EDGES];

@@ -4,8 +4,8 @@ ghost use mathlib.Core.List.{[], _∷_, map};
 ghost use Rattle.sorting.specs.Rows.{atMost};
 ghost use Rattle.arranging.specs.Steps.{keyOfRow, rowOfKey};
 use crate::words::rank;
-use crate::words::turned;
 use crate::words::word_of;
+use numbers::words::unsigned_word;
 
 // Whether the first of two corners comes first, each by its places.
 fn is_earlier(px: u64, py: u64, qx: u64, qy: u64) -> bool
@@ -24,10 +24,10 @@ fn is_earlier(px: u64, py: u64, qx: u64, qy: u64) -> bool
 fn key_of(row: [u64; 5]) -> [u64; 5]
     ensures { λ r. ⌜ r ≡ keyOfRow row ⌝ }
 {
-    let px = rank(turned(row[0]));
-    let py = rank(turned(row[1]));
-    let qx = rank(turned(row[2]));
-    let qy = rank(turned(row[3]));
+    let px = rank(unsigned_word(row[0]));
+    let py = rank(unsigned_word(row[1]));
+    let qx = rank(unsigned_word(row[2]));
+    let qy = rank(unsigned_word(row[3]));
     if is_earlier(px, py, qx, qy) {
         return [px, py, qx, qy, row[4]];
     }

@@ -1,20 +1,10 @@
-// A number by its bits: minus zero turned, and its place in IEEE 754's totalOrder.
+// A number by its bits: its place in IEEE 754's totalOrder.
 ghost use mathlib.Core.Path.{_≡_};
 ghost use Rattle.arranging.specs.Order as Order;
-ghost use Rattle.arranging.specs.Arranged as Arranged;
 ghost use Rattle.arranging.specs.Steps.{wordOf};
 
-// Minus zero.
+// The least word that has the sign bit.
 const SIGN_BIT: u64 = 0x8000_0000_0000_0000;
-
-pub fn turned(w: u64) -> u64
-    ensures { λ r. ⌜ r ≡ Arranged.turned w ⌝ }
-{
-    if w == SIGN_BIT {
-        return 0;
-    }
-    w
-}
 
 pub fn rank(w: u64) -> u64
     ensures { λ r. ⌜ r ≡ Order.rank w ⌝ }

@@ -1,7 +1,6 @@
 // Answers put into `out` from `at` on; each function answers the place after.
 use events::Event;
 use refusals::Refusal;
-use text::bits::bits_of;
 use text::digits::HEX_DIGITS;
 use text::digits::put_decimal;
 use text::digits::put_hex;
@@ -13,13 +12,13 @@ pub fn word(out: &mut [u8], at: usize, word: &[u8]) -> usize {
     after(at, word.len(), out.len())
 }
 
-pub fn bits(out: &mut [u8], at: usize, x: f64) -> usize {
-    put_hex(out, at, bits_of(x));
+pub fn bits(out: &mut [u8], at: usize, x: u64) -> usize {
+    put_hex(out, at, x);
     after(at, HEX_DIGITS, out.len())
 }
 
 // A space and a number's bits.
-pub fn number(out: &mut [u8], from: usize, x: f64) -> usize {
+pub fn number(out: &mut [u8], from: usize, x: u64) -> usize {
     let at = word(out, from, b" ");
     bits(out, at, x)
 }

@@ -3,25 +3,25 @@ use crate::answers;
 use crate::pairs;
 use crate::pairs::Edge;
 use crate::words;
-use numbers::Coordinate;
+use numbers::Point;
 use records::Before;
 use records::is_before;
 
 fn event(
     line: &[u8],
     from: usize,
-    points: &mut [[f64; 2]],
+    points: &mut [[u64; 2]],
     marks: &mut [[u32; 12]],
     i: u32,
     j: u32,
 ) -> usize {
-    let mut n = [0.0; 4];
+    let mut n = [0; 4];
     let mut flags = [false; 2];
     let at = words::numbers(line, from, &mut n);
     let after = words::flags(line, at, &mut flags);
     let e = Edge {
-        from: Coordinate { x: n[0], y: n[1] },
-        to: Coordinate { x: n[2], y: n[3] },
+        from: Point { x: n[0], y: n[1] },
+        to: Point { x: n[2], y: n[3] },
         left: flags[0],
         subject: flags[1],
         ring: 0,
@@ -42,7 +42,7 @@ fn second(out: &mut [u8], from: usize, first: bool, told: Before) -> usize {
 }
 
 pub fn answer(line: &[u8], from: usize, out: &mut [u8], at: usize) -> usize {
-    let mut points = [[0.0; 2]; 4];
+    let mut points = [[0u64; 2]; 4];
     let mut marks = [[0u32; 12]; 4];
     let next = event(line, from, &mut points, &mut marks, 0, 1);
     if event(line, next, &mut points, &mut marks, 2, 3) != line.len() {

@@ -5,10 +5,12 @@ use crossing::Crossed;
 use crossing::LineIntersection;
 use crossing::crossing;
 use numbers::Coordinate;
+use numbers::words::number;
+use numbers::words::word;
 
 fn coordinate(out: &mut [u8], from: usize, point: Coordinate) -> usize {
-    let at = answers::number(out, from, point.x);
-    answers::number(out, at, point.y)
+    let at = answers::number(out, from, word(point.x));
+    answers::number(out, at, word(point.y))
 }
 
 fn overlap(out: &mut [u8], from: usize, p: Coordinate, q: Coordinate) -> usize {
@@ -30,11 +32,21 @@ fn found(out: &mut [u8], from: usize, intersection: LineIntersection) -> usize {
 }
 
 pub fn answer(line: &[u8], from: usize, mode: u32, out: &mut [u8], at: usize) -> usize {
-    let mut n = [0.0; 8];
+    let mut n = [0; 8];
     if words::numbers(line, from, &mut n) != line.len() {
         return answers::malformed(out, at);
     }
-    match crossing(mode, n[0], n[1], n[2], n[3], n[4], n[5], n[6], n[7]) {
+    match crossing(
+        mode,
+        number(n[0]),
+        number(n[1]),
+        number(n[2]),
+        number(n[3]),
+        number(n[4]),
+        number(n[5]),
+        number(n[6]),
+        number(n[7]),
+    ) {
         Crossed::Refused(refusal) => answers::refused(out, at, refusal),
         Crossed::Found(intersection) => found(out, at, intersection),
     }

@@ -8,7 +8,7 @@ use division::Divided;
 use division::Division;
 use events::Event;
 use events::pool::read_event;
-use numbers::Coordinate;
+use numbers::Point;
 use records::dividing::divide_segment;
 
 const USED: u32 = 2;
@@ -21,7 +21,7 @@ fn new_ends(out: &mut [u8], from: usize, right: Event, left: Event) -> usize {
 }
 
 fn told(
-    points: &[[f64; 2]],
+    points: &[[u64; 2]],
     marks: &[[u32; 12]],
     d: Divided,
     out: &mut [u8],
@@ -35,9 +35,9 @@ fn told(
 }
 
 fn divided(
-    points: &mut [[f64; 2]],
+    points: &mut [[u64; 2]],
     marks: &mut [[u32; 12]],
-    cut: Coordinate,
+    cut: Point,
     out: &mut [u8],
     at: usize,
 ) -> usize {
@@ -48,9 +48,9 @@ fn divided(
 }
 
 pub fn answer(line: &[u8], from: usize, out: &mut [u8], at: usize) -> usize {
-    let mut points = [[0.0; 2]; 4];
+    let mut points = [[0u64; 2]; 4];
     let mut marks = [[0u32; 12]; 4];
-    let mut n = [0.0; 6];
+    let mut n = [0; 6];
     let mut subject = [false; 1];
     let next = words::numbers(line, from, &mut n);
     let next = words::flags(line, next, &mut subject);
@@ -59,18 +59,12 @@ pub fn answer(line: &[u8], from: usize, out: &mut [u8], at: usize) -> usize {
         return answers::malformed(out, at);
     }
     let e = Edge {
-        from: Coordinate { x: n[0], y: n[1] },
-        to: Coordinate { x: n[2], y: n[3] },
+        from: Point { x: n[0], y: n[1] },
+        to: Point { x: n[2], y: n[3] },
         left: true,
         subject: subject[0],
         ring: ring.number,
     };
     pairs::store(&mut points, &mut marks, 0, 1, e);
-    divided(
-        &mut points,
-        &mut marks,
-        Coordinate { x: n[4], y: n[5] },
-        out,
-        at,
-    )
+    divided(&mut points, &mut marks, Point { x: n[4], y: n[5] }, out, at)
 }

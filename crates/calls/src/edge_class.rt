@@ -12,9 +12,16 @@ use events::Link;
 use events::ResultTransition;
 use events::pool::enter_event;
 use events::pool::read_event;
-use numbers::Coordinate;
+use numbers::Point;
 use records::Computed;
 use records::compute_fields;
+
+// Coordinates by their bits.
+const ZERO: u64 = 0;
+
+const ONE: u64 = 0x3ff0_0000_0000_0000;
+
+const MINUS_ONE: u64 = 0xbff0_0000_0000_0000;
 
 const EDGE: u32 = 0;
 
@@ -26,16 +33,16 @@ const STALE: u32 = 6;
 
 // An edge from (0, y) to (x, 1), as records i and j.
 fn store(
-    points: &mut [[f64; 2]],
+    points: &mut [[u64; 2]],
     marks: &mut [[u32; 12]],
     i: u32,
     j: u32,
-    y: f64,
-    x: f64,
+    y: u64,
+    x: u64,
     subject: bool,
 ) {
-    let from = Coordinate { x: 0.0, y };
-    let to = Coordinate { x, y: 1.0 };
+    let from = Point { x: ZERO, y };
+    let to = Point { x, y: ONE };
     pairs::store(
         points,
         marks,
@@ -52,18 +59,18 @@ fn store(
 }
 
 // Those that links lead to.
-fn store_linked(points: &mut [[f64; 2]], marks: &mut [[u32; 12]]) {
-    store(points, marks, BELOW, 5, 0.0, 1.0, true);
-    store(points, marks, STALE, 7, 0.0, 1.0, true);
+fn store_linked(points: &mut [[u64; 2]], marks: &mut [[u32; 12]]) {
+    store(points, marks, BELOW, 5, ZERO, ONE, true);
+    store(points, marks, STALE, 7, ZERO, ONE, true);
 }
 
 fn store_edge(
-    points: &mut [[f64; 2]],
+    points: &mut [[u64; 2]],
     marks: &mut [[u32; 12]],
     subject: bool,
     edge_type: EdgeType,
 ) {
-    store(points, marks, EDGE, 1, 0.0, 1.0, subject);
+    store(points, marks, EDGE, 1, ZERO, ONE, subject);
     let e = read_event(points, marks, EDGE);
     let stale = pairs::computed(
         e,
@@ -77,20 +84,20 @@ fn store_edge(
 }
 
 // S V IO OIO TR LINK: the lower neighbour.
-fn lower(line: &[u8], from: usize, points: &mut [[f64; 2]], marks: &mut [[u32; 12]]) -> usize {
+fn lower(line: &[u8], from: usize, points: &mut [[u64; 2]], marks: &mut [[u32; 12]]) -> usize {
     let mut flags = [false; 4];
     let mut linked = [false; 1];
     let at = words::flags(line, from, &mut flags);
     let read = kinds::transition(line, at);
     let after = words::flags(line, read.after, &mut linked);
-    let x = if flags[1] { 0.0 } else { 1.0 };
+    let x = if flags[1] { ZERO } else { ONE };
     let below = if linked[0] {
         Link::To(BELOW)
     } else {
         Link::None
     };
     let transition = read.transition;
-    store(points, marks, LOWER, 3, -1.0, x, flags[0]);
+    store(points, marks, LOWER, 3, MINUS_ONE, x, flags[0]);
     let e = read_event(points, marks, LOWER);
     enter_event(
         points,
@@ -135,7 +142,7 @@ fn told(out: &mut [u8], from: usize, e: Event) -> usize {
 }
 
 fn computed_above(
-    points: &mut [[f64; 2]],
+    points: &mut [[u64; 2]],
     marks: &mut [[u32; 12]],
     lower: Link,
     operation: Operation,
@@ -149,7 +156,7 @@ fn computed_above(
 }
 
 pub fn answer(line: &[u8], from: usize, out: &mut [u8], at: usize) -> usize {
-    let mut points = [[0.0; 2]; 8];
+    let mut points = [[0u64; 2]; 8];
     let mut marks = [[0u32; 12]; 8];
     let mut subject = [false; 1];
     let read = kinds::operation(line, from);

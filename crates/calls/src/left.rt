@@ -2,24 +2,24 @@
 use crate::pairs;
 use crate::pairs::Edge;
 use crate::words;
-use numbers::Coordinate;
+use numbers::Point;
 
 pub fn record(
     line: &[u8],
     from: usize,
-    points: &mut [[f64; 2]],
+    points: &mut [[u64; 2]],
     marks: &mut [[u32; 12]],
     i: u32,
     j: u32,
 ) -> usize {
-    let mut n = [0.0; 4];
+    let mut n = [0; 4];
     let mut subject = [false; 1];
     let at = words::numbers(line, from, &mut n);
     let at = words::flags(line, at, &mut subject);
     let ring = words::ring(line, at);
     let e = Edge {
-        from: Coordinate { x: n[0], y: n[1] },
-        to: Coordinate { x: n[2], y: n[3] },
+        from: Point { x: n[0], y: n[1] },
+        to: Point { x: n[2], y: n[3] },
         left: true,
         subject: subject[0],
         ring: ring.number,

@@ -25,7 +25,7 @@ const PIECES: usize = 3;
 fn record(
     line: &[u8],
     from: usize,
-    points: &mut [[f64; 2]],
+    points: &mut [[u64; 2]],
     marks: &mut [[u32; 12]],
     i: u32,
     j: u32,
@@ -56,7 +56,7 @@ fn edge_type(out: &mut [u8], at: usize, edge_type: EdgeType) -> usize {
 }
 
 // The piece of a segment that begins at record i: both ends.
-fn piece(points: &[[f64; 2]], marks: &[[u32; 12]], i: u32, out: &mut [u8], from: usize) -> usize {
+fn piece(points: &[[u64; 2]], marks: &[[u32; 12]], i: u32, out: &mut [u8], from: usize) -> usize {
     let e = read_event(points, marks, i);
     let at = answers::end(out, from, e);
     answers::end(out, at, read_event(points, marks, e.partner))
@@ -69,7 +69,7 @@ fn next(right: u32) -> u32 {
 
 // The pieces of the segment from the first record to the last.
 fn chain(
-    points: &[[f64; 2]],
+    points: &[[u64; 2]],
     marks: &[[u32; 12]],
     first: u32,
     last: u32,
@@ -98,7 +98,7 @@ fn done(out: &mut [u8], from: usize, code: u32, first: EdgeType, second: EdgeTyp
 }
 
 fn told(
-    points: &[[f64; 2]],
+    points: &[[u64; 2]],
     marks: &[[u32; 12]],
     code: u32,
     made: u32,
@@ -119,7 +119,7 @@ fn made(used: u32) -> u32 {
 }
 
 fn met(
-    points: &mut [[f64; 2]],
+    points: &mut [[u64; 2]],
     marks: &mut [[u32; 12]],
     mode: u32,
     out: &mut [u8],
@@ -134,7 +134,7 @@ fn met(
 }
 
 pub fn answer(line: &[u8], from: usize, mode: u32, out: &mut [u8], at: usize) -> usize {
-    let mut points = [[0.0; 2]; 8];
+    let mut points = [[0u64; 2]; 8];
     let mut marks = [[0u32; 12]; 8];
     let next = record(line, from, &mut points, &mut marks, FIRST, 1);
     if record(line, next, &mut points, &mut marks, SECOND, 3) != line.len() {

@@ -1,6 +1,7 @@
 // orient AX AY BX BY CX CY: -1, 0 or 1.
 use crate::answers;
 use crate::words;
+use numbers::words::number;
 use orientation::Oriented;
 use orientation::Sign;
 use orientation::orientation;
@@ -14,11 +15,18 @@ fn turn(out: &mut [u8], at: usize, sign: Sign) -> usize {
 }
 
 pub fn answer(line: &[u8], from: usize, out: &mut [u8], at: usize) -> usize {
-    let mut n = [0.0; 6];
+    let mut n = [0; 6];
     if words::numbers(line, from, &mut n) != line.len() {
         return answers::malformed(out, at);
     }
-    match orientation(n[0], n[1], n[2], n[3], n[4], n[5]) {
+    match orientation(
+        number(n[0]),
+        number(n[1]),
+        number(n[2]),
+        number(n[3]),
+        number(n[4]),
+        number(n[5]),
+    ) {
         Oriented::Refused(refusal) => answers::refused(out, at, refusal),
         Oriented::Turn(sign) => turn(out, at, sign),
     }

@@ -5,7 +5,7 @@ use events::Link;
 use events::ResultTransition;
 use events::fresh_event;
 use events::pool::enter_event;
-use numbers::Coordinate;
+use numbers::Point;
 
 // A left end with what an earlier computation left.
 pub fn computed(
@@ -34,15 +34,15 @@ pub fn computed(
 
 // An edge of the call, from one end to the other.
 pub struct Edge {
-    pub from: Coordinate,
-    pub to: Coordinate,
+    pub from: Point,
+    pub to: Point,
     pub left: bool,
     pub subject: bool,
     pub ring: u32,
 }
 
 // Stores both ends, as records i and j.
-pub fn store(points: &mut [[f64; 2]], marks: &mut [[u32; 12]], i: u32, j: u32, e: Edge) {
+pub fn store(points: &mut [[u64; 2]], marks: &mut [[u32; 12]], i: u32, j: u32, e: Edge) {
     let from = e.from;
     let to = e.to;
     let first = fresh_event(from, e.left, e.subject, e.ring, j);

@@ -19,7 +19,7 @@ fn told(out: &mut [u8], at: usize, compared: Compared) -> usize {
 }
 
 pub fn answer(line: &[u8], from: usize, mode: u32, out: &mut [u8], at: usize) -> usize {
-    let mut points = [[0.0; 2]; 4];
+    let mut points = [[0u64; 2]; 4];
     let mut marks = [[0u32; 12]; 4];
     let next = left::record(line, from, &mut points, &mut marks, 0, 1);
     if words::passed(line, next, b" same") == line.len() {

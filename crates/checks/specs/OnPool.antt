@@ -3,7 +3,7 @@ use mathlib.Core.Bool.{Bool}
 use mathlib.Core.List.{List, [], _∷_}
 use Prim.Native.Nat.{ℕ}
 use lib.ListN.{length}
-use Rattle.numbers.specs.declared.Coordinate.{Coordinate}
+use Rattle.numbers.specs.declared.Point.{Point}
 use Rattle.events.specs.Event.{Event}
 use Rattle.events.specs.Binary64.{atBinary64}
 use Rattle.events.specs.Pool.{Pool, size, rowAt}
@@ -13,7 +13,7 @@ use Rattle.checks.specs.declared.Fault.the-variants.{Unfit, Mistaken, Mi
 use Rattle.checks.specs.Checks.{unfitAt, mistaken, mistakenOrRight, told, andThen, sized, checked, named, checkedLeft}
 
 -- a definition at the records and the places of a pool
-abbrev pub on : {A : Type 0} → Pool → ((ℕ → Event Coordinate) → ℕ → A) → A
+abbrev pub on : {A : Type 0} → Pool → ((ℕ → Event Point) → ℕ → A) → A
 on p f = f (rowAt p) (size p)
 
 -- the number of the refusal

@@ -28,7 +28,7 @@ pub enum Fault {
 }
 
 // For an entry that names one record: refusals 1, 2 and 4 for it and its partner.
-pub fn check_one(points: &[[f64; 2]], marks: &[[u32; 12]], a: u32) -> Check
+pub fn check_one(points: &[[u64; 2]], marks: &[[u32; 12]], a: u32) -> Check
     ensures { λ r. ⌜ r ≡ checkedNamed (pool (now (points .entry)) (now (marks .entry))) (a ∷ []) ⌝ }
 {
     let n = places(points, marks);
@@ -37,7 +37,7 @@ pub fn check_one(points: &[[f64; 2]], marks: &[[u32; 12]], a: u32) -> Check
 }
 
 // For an entry that names two records.
-pub fn check_two(points: &[[f64; 2]], marks: &[[u32; 12]], a: u32, b: u32) -> Check
+pub fn check_two(points: &[[u64; 2]], marks: &[[u32; 12]], a: u32, b: u32) -> Check
     ensures { λ r. ⌜ r ≡ checkedNamed (pool (now (points .entry)) (now (marks .entry))) (a ∷ b ∷ []) ⌝ }
 {
     let n = places(points, marks);
@@ -51,7 +51,7 @@ pub fn check_two(points: &[[f64; 2]], marks: &[[u32; 12]], a: u32, b: u32) -> Ch
 }
 
 // For an entry that names one record and wants it left.
-pub fn check_left_one(points: &[[f64; 2]], marks: &[[u32; 12]], a: u32) -> Check
+pub fn check_left_one(points: &[[u64; 2]], marks: &[[u32; 12]], a: u32) -> Check
     ensures { λ r. ⌜ r ≡ checkedLeftNamed (pool (now (points .entry)) (now (marks .entry))) (a ∷ []) ⌝ }
 {
     let n = places(points, marks);
@@ -60,7 +60,7 @@ pub fn check_left_one(points: &[[f64; 2]], marks: &[[u32; 12]], a: u32) -> Check
 }
 
 // For an entry that names two records and wants both left.
-pub fn check_left_two(points: &[[f64; 2]], marks: &[[u32; 12]], a: u32, b: u32) -> Check
+pub fn check_left_two(points: &[[u64; 2]], marks: &[[u32; 12]], a: u32, b: u32) -> Check
     ensures { λ r. ⌜ r ≡ checkedLeftNamed (pool (now (points .entry)) (now (marks .entry))) (a ∷ b ∷ []) ⌝ }
 {
     let n = places(points, marks);
@@ -74,7 +74,7 @@ pub fn check_left_two(points: &[[f64; 2]], marks: &[[u32; 12]], a: u32, b: u32) 
 }
 
 // For the sweep: refusals 2 and 4 for the first n records. A link to a number not below n leads outside.
-pub fn check_loaded(points: &[[f64; 2]], marks: &[[u32; 12]], n: u32) -> Check
+pub fn check_loaded(points: &[[u64; 2]], marks: &[[u32; 12]], n: u32) -> Check
     ensures { λ r. ⌜ r ≡ checked atBinary64 (rowAt (pool (now (points .entry)) (now (marks .entry)))) n (numbersFrom 0 n) ⌝ }
 {
     match loaded::check_lowest(points, marks, n, Fault::Unfit) {

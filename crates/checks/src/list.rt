@@ -13,7 +13,7 @@ use refusals::Refusal;
 
 // The place in the list of the first record with the fault; the list's length where none has it.
 pub fn first_struck(
-    points: &[[f64; 2]],
+    points: &[[u64; 2]],
     marks: &[[u32; 12]],
     n: usize,
     fault: Fault,
@@ -49,7 +49,7 @@ pub fn place_of(r: u32) -> u64
 
 // Refused at the first record with the fault.
 pub fn check_fault(
-    points: &[[f64; 2]],
+    points: &[[u64; 2]],
     marks: &[[u32; 12]],
     n: usize,
     fault: Fault,
@@ -68,7 +68,7 @@ pub fn check_fault(
 }
 
 // Refusal 1, then 2 and the fault, each over all records of the list before the next.
-pub fn check_for(points: &[[f64; 2]], marks: &[[u32; 12]], fault: Fault, list: &[u32]) -> Check
+pub fn check_for(points: &[[u64; 2]], marks: &[[u32; 12]], fault: Fault, list: &[u32]) -> Check
     ensures { λ r. ⌜ r ≡ checkedFor (pool (now (points .entry)) (now (marks .entry))) fault (now (list .entry)) ⌝ }
 {
     if pool_refused(points, marks) {
@@ -85,7 +85,7 @@ pub fn check_for(points: &[[f64; 2]], marks: &[[u32; 12]], fault: Fault, list: &
 }
 
 // Refusals 1, 2 and 4.
-pub fn check_records(points: &[[f64; 2]], marks: &[[u32; 12]], list: &[u32]) -> Check
+pub fn check_records(points: &[[u64; 2]], marks: &[[u32; 12]], list: &[u32]) -> Check
     ensures { λ r. ⌜ r ≡ checkedAt (pool (now (points .entry)) (now (marks .entry))) (now (list .entry)) ⌝ }
 {
     check_for(points, marks, Fault::Mistaken, list)

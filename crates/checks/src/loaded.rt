@@ -12,7 +12,7 @@ use crate::records::is_struck;
 use refusals::Refusal;
 
 // The lowest record with the fault; n where none has it.
-pub fn lowest_struck(points: &[[f64; 2]], marks: &[[u32; 12]], n: u32, fault: Fault) -> u32
+pub fn lowest_struck(points: &[[u64; 2]], marks: &[[u32; 12]], n: u32, fault: Fault) -> u32
     ensures { λ x. ⌜ x ≡ first (strikes (pool (now (points .entry)) (now (marks .entry))) n fault) (numbersFrom 0 n) ⌝ }
 {
     let places = n as usize;
@@ -27,7 +27,7 @@ pub fn lowest_struck(points: &[[f64; 2]], marks: &[[u32; 12]], n: u32, fault: Fa
 }
 
 // Refused at the lowest record with the fault.
-pub fn check_lowest(points: &[[f64; 2]], marks: &[[u32; 12]], n: u32, fault: Fault) -> Check
+pub fn check_lowest(points: &[[u64; 2]], marks: &[[u32; 12]], n: u32, fault: Fault) -> Check
     ensures { λ x. ⌜ x ≡ told (numberOf fault) (strikes (pool (now (points .entry)) (now (marks .entry))) n fault) (numbersFrom 0 n) ⌝ }
 {
     let r = lowest_struck(points, marks, n, fault);

@@ -2,7 +2,6 @@
 ghost use mathlib.Core.Path.{_≡_};
 ghost use mathlib.Core.List.{[], _∷_};
 ghost use Rattle.events.specs.Binary64.{atBinary64};
-ghost use Rattle.events.specs.Coordinates.{ahead};
 ghost use Rattle.events.specs.Pool.{pool, rowAt};
 ghost use Rattle.checks.specs.Checks as Checks;
 ghost use Rattle.checks.specs.Checks.{unfitAt, unpaired, alike, misordered, notToLeft, misled, mistaken, rightAmong, mistakenOrRight};
@@ -10,13 +9,12 @@ ghost use Rattle.checks.specs.OnPool.{strikes};
 use crate::Fault;
 use crate::sizes::is_outside;
 use events::Link;
+use events::points::is_ahead;
 use events::points::is_unfit_point;
 use events::pool::read_event;
-use numbers::Coordinate;
-use numbers::points;
 
 // Refusal 2: a record of the pool whose point is not fit.
-pub fn is_unfit_at(points: &[[f64; 2]], marks: &[[u32; 12]], n: usize, r: u32) -> bool
+pub fn is_unfit_at(points: &[[u64; 2]], marks: &[[u32; 12]], n: usize, r: u32) -> bool
     ensures { λ x. ⌜ x ≡ unfitAt atBinary64 (rowAt (pool (now (points .entry)) (now (marks .entry)))) n r ⌝ }
 {
     if is_outside(n, r) {
@@ -27,7 +25,7 @@ pub fn is_unfit_at(points: &[[f64; 2]], marks: &[[u32; 12]], n: usize, r: u32) -
 }
 
 // Partner not mutual.
-pub fn is_unpaired(points: &[[f64; 2]], marks: &[[u32; 12]], n: usize, r: u32) -> bool
+pub fn is_unpaired(points: &[[u64; 2]], marks: &[[u32; 12]], n: usize, r: u32) -> bool
     ensures { λ x. ⌜ x ≡ unpaired (rowAt (pool (now (points .entry)) (now (marks .entry)))) n r ⌝ }
 {
     let e = read_event(points, marks, r);
@@ -39,7 +37,7 @@ pub fn is_unpaired(points: &[[f64; 2]], marks: &[[u32; 12]], n: usize, r: u32) -
 }
 
 // Both flags alike.
-pub fn is_alike(points: &[[f64; 2]], marks: &[[u32; 12]], r: u32) -> bool
+pub fn is_alike(points: &[[u64; 2]], marks: &[[u32; 12]], r: u32) -> bool
     ensures { λ x. ⌜ x ≡ alike (rowAt (pool (now (points .entry)) (now (marks .entry)))) r ⌝ }
 {
     let e = read_event(points, marks, r);
@@ -47,15 +45,8 @@ pub fn is_alike(points: &[[f64; 2]], marks: &[[u32; 12]], r: u32) -> bool
     e.left == other.left
 }
 
-// Earlier by x, then y.
-pub fn is_ahead(p: Coordinate, q: Coordinate) -> bool
-    ensures { λ r. ⌜ r ≡ ahead atBinary64 p q ⌝ }
-{
-    points::is_ahead(p, q)
-}
-
 // Left end not before its partner.
-pub fn is_misordered(points: &[[f64; 2]], marks: &[[u32; 12]], r: u32) -> bool
+pub fn is_misordered(points: &[[u64; 2]], marks: &[[u32; 12]], r: u32) -> bool
     ensures { λ x. ⌜ x ≡ misordered atBinary64 (rowAt (pool (now (points .entry)) (now (marks .entry)))) r ⌝ }
 {
     let e = read_event(points, marks, r);
@@ -66,7 +57,7 @@ pub fn is_misordered(points: &[[f64; 2]], marks: &[[u32; 12]], r: u32) -> bool
     !is_ahead(other.point, e.point)
 }
 
-fn is_not_to_left(points: &[[f64; 2]], marks: &[[u32; 12]], n: usize, below: Link) -> bool
+fn is_not_to_left(points: &[[u64; 2]], marks: &[[u32; 12]], n: usize, below: Link) -> bool
     ensures { λ x. ⌜ x ≡ notToLeft (rowAt (pool (now (points .entry)) (now (marks .entry)))) n below ⌝ }
 {
     match below {
@@ -81,7 +72,7 @@ fn is_not_to_left(points: &[[f64; 2]], marks: &[[u32; 12]], n: usize, below: Lin
 }
 
 // Below link not to a left record.
-pub fn is_misled(points: &[[f64; 2]], marks: &[[u32; 12]], n: usize, r: u32) -> bool
+pub fn is_misled(points: &[[u64; 2]], marks: &[[u32; 12]], n: usize, r: u32) -> bool
     ensures { λ x. ⌜ x ≡ misled (rowAt (pool (now (points .entry)) (now (marks .entry)))) n r ⌝ }
 {
     let e = read_event(points, marks, r);
@@ -90,7 +81,7 @@ pub fn is_misled(points: &[[f64; 2]], marks: &[[u32; 12]], n: usize, r: u32) -> 
 }
 
 // Refusal 4: one of the five.
-pub fn is_mistaken(points: &[[f64; 2]], marks: &[[u32; 12]], n: usize, r: u32) -> bool
+pub fn is_mistaken(points: &[[u64; 2]], marks: &[[u32; 12]], n: usize, r: u32) -> bool
     ensures { λ x. ⌜ x ≡ mistaken atBinary64 (rowAt (pool (now (points .entry)) (now (marks .entry)))) n r ⌝ }
 {
     if is_outside(n, r) {
@@ -109,7 +100,7 @@ pub fn is_mistaken(points: &[[f64; 2]], marks: &[[u32; 12]], n: usize, r: u32) -
 }
 
 // A right record that is a or b.
-fn is_right_among(points: &[[f64; 2]], marks: &[[u32; 12]], a: u32, b: u32, r: u32) -> bool
+fn is_right_among(points: &[[u64; 2]], marks: &[[u32; 12]], a: u32, b: u32, r: u32) -> bool
     ensures { λ x. ⌜ x ≡ rightAmong (rowAt (pool (now (points .entry)) (now (marks .entry)))) (a ∷ b ∷ []) r ⌝ }
 {
     let e = read_event(points, marks, r);
@@ -118,7 +109,7 @@ fn is_right_among(points: &[[f64; 2]], marks: &[[u32; 12]], a: u32, b: u32, r: u
 
 // Refusal 4 where a and b are wanted left.
 pub fn is_mistaken_or_right(
-    points: &[[f64; 2]],
+    points: &[[u64; 2]],
     marks: &[[u32; 12]],
     n: usize,
     a: u32,
@@ -134,7 +125,7 @@ pub fn is_mistaken_or_right(
 }
 
 // Whether the record has the fault.
-pub fn is_struck(points: &[[f64; 2]], marks: &[[u32; 12]], n: usize, fault: Fault, r: u32) -> bool
+pub fn is_struck(points: &[[u64; 2]], marks: &[[u32; 12]], n: usize, fault: Fault, r: u32) -> bool
     ensures { λ x. ⌜ x ≡ strikes (pool (now (points .entry)) (now (marks .entry))) n fault r ⌝ }
 {
     match fault {
@@ -145,7 +136,7 @@ pub fn is_struck(points: &[[f64; 2]], marks: &[[u32; 12]], n: usize, fault: Faul
 }
 
 // The partner's number; outside the pool the number itself.
-pub fn mate(points: &[[f64; 2]], marks: &[[u32; 12]], n: usize, r: u32) -> u32
+pub fn mate(points: &[[u64; 2]], marks: &[[u32; 12]], n: usize, r: u32) -> u32
     ensures { λ x. ⌜ x ≡ Checks.mate (rowAt (pool (now (points .entry)) (now (marks .entry)))) n r ⌝ }
 {
     if is_outside(n, r) {

@@ -14,7 +14,7 @@ pub const FEW: usize = 256;
 pub const POOL_PLACE: u64 = 1;
 
 // Refusal 1: the arrays unequal, or above the limit.
-pub fn pool_refused(points: &[[f64; 2]], marks: &[[u32; 12]]) -> bool
+pub fn pool_refused(points: &[[u64; 2]], marks: &[[u32; 12]]) -> bool
     ensures { λ r. ⌜ r ≡ missized (length (now (points .entry))) (length (now (marks .entry))) ⌝ }
 {
     if points.len() != marks.len() {
@@ -24,7 +24,7 @@ pub fn pool_refused(points: &[[f64; 2]], marks: &[[u32; 12]]) -> bool
 }
 
 // The places of a pool: those of the shorter array.
-pub fn places(points: &[[f64; 2]], marks: &[[u32; 12]]) -> usize
+pub fn places(points: &[[u64; 2]], marks: &[[u32; 12]]) -> usize
     ensures { λ x. ⌜ x ≡ size (pool (now (points .entry)) (now (marks .entry))) ⌝ }
 {
     if points.len() < marks.len() {

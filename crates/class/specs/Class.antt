@@ -2,7 +2,7 @@
 -- edge into the result, and which way. In-out: going up across the edge, its own layer is left. Other-in-out: the edge is outside the other layer.
 use mathlib.Core.Bool.{Bool, true, false, cond, not, _&&_, _||_, xor, Bool·beq}
 use Prim.Native.Nat.{ℕ}
-use Rattle.numbers.specs.declared.Coordinate.{Coordinate}
+use Rattle.numbers.specs.declared.Point.{Point}
 use Rattle.events.specs.declared.EdgeType.{EdgeType}
 use Rattle.events.specs.declared.EdgeType.the-variants.{Normal, NonContributing, SameTransition, DifferentTransition}
 use Rattle.events.specs.declared.ResultTransition.{ResultTransition}
@@ -130,9 +130,9 @@ fields op e lower = decided op (setFromLower e lower)
 
 -- ---- the structs of the code, at binary64
 
-abbrev pub shownNeighbour : CodeNeighbour → Neighbour Coordinate
+abbrev pub shownNeighbour : CodeNeighbour → Neighbour Point
 shownNeighbour n = record { number = n .number; event = shown (n .event); vertical = n .vertical }
 
-abbrev pub shownLower : CodeLower → Lower Coordinate
+abbrev pub shownLower : CodeLower → Lower Point
 shownLower CodeNone = None
 shownLower (CodeEdge n) = Edge (shownNeighbour n)

@@ -7,11 +7,12 @@ use crate::Lower;
 use crate::Neighbour;
 use crate::Operation;
 use events::Link;
+use events::points::same_x;
 use events::pool::read_event;
 use events::pool::store_event;
 
 // Vertical: the partner's x is its own, by value.
-fn neighbour_at(points: &[[f64; 2]], marks: &[[u32; 12]], number: u32) -> Neighbour
+fn neighbour_at(points: &[[u64; 2]], marks: &[[u32; 12]], number: u32) -> Neighbour
     ensures { λ r. ⌜ shownNeighbour r ≡ neighbourAt (pool (now (points .entry)) (now (marks .entry))) number ⌝ }
 {
     let event = read_event(points, marks, number);
@@ -19,11 +20,11 @@ fn neighbour_at(points: &[[f64; 2]], marks: &[[u32; 12]], number: u32) -> Neighb
     Neighbour {
         number,
         event,
-        vertical: event.point.x == partner.point.x,
+        vertical: same_x(event.point, partner.point),
     }
 }
 
-fn lower_at(points: &[[f64; 2]], marks: &[[u32; 12]], lower: Link) -> Lower
+fn lower_at(points: &[[u64; 2]], marks: &[[u32; 12]], lower: Link) -> Lower
     ensures { λ r. ⌜ shownLower r ≡ lowerAt (pool (now (points .entry)) (now (marks .entry))) lower ⌝ }
 {
     match lower {
@@ -34,7 +35,7 @@ fn lower_at(points: &[[f64; 2]], marks: &[[u32; 12]], lower: Link) -> Lower
 
 // The class of record `e` above the record that `lower` names, stored.
 pub fn compute_fields_at(
-    points: &mut [[f64; 2]],
+    points: &mut [[u64; 2]],
     marks: &mut [[u32; 12]],
     e: u32,
     lower: Link,

@@ -4,7 +4,7 @@ use mathlib.Core.List.{List, []}
 use Prim.Native.Nat.{ℕ}
 use native.Mathlib.Omega.{arith}
 use Rattle.refusals.specs.declared.Refusal.{Refusal}
-use Rattle.numbers.specs.declared.Coordinate.{Coordinate}
+use Rattle.numbers.specs.declared.Point.{Point}
 use Rattle.events.specs.Pool.{Pool, size, stored}
 use Rattle.contours.specs.Outline.{Outline}
 use Rattle.contours.specs.Connect.{Finished, refused, stopped, connected, given}
@@ -25,7 +25,7 @@ not-both o x p q = let z : _≡_ {A = ℕ} 0 1 = cc in omega arith
 -- ---- a call that is done
 
 module _ (p : Pool) (list : List ℕ) (l : Lent) where
-  of-finished : (f : Finished Coordinate Pool) → connectPool p list (roomOf l) ≡ connected f → Outlined p list l (after (connected f) p l)
+  of-finished : (f : Finished Point Pool) → connectPool p list (roomOf l) ≡ connected f → Outlined p list l (after (connected f) p l)
   unfolding after told toldOf given
   of-finished f e =
       let h = enough p list (roomOf l) f (ap given e) in
@@ -43,20 +43,20 @@ module _ (p : Pool) (list : List ℕ) (l : Lent) where
   unfolding connectEdges after told
   outlined d = go (connectPool p list (roomOf l)) refl d
     where
-      go : (x : C.Outcome Coordinate Pool) → connectPool p list (roomOf l) ≡ x → after x p l .answer .outcome ≡ Done → Outlined p list l (after x p l)
+      go : (x : C.Outcome Point Pool) → connectPool p list (roomOf l) ≡ x → after x p l .answer .outcome ≡ Done → Outlined p list l (after x p l)
       go (refused r) e d = absurd (not-both (Refused r) r d refl)
       go (stopped r f) e d = absurd (not-both (Refused r) r d refl)
       go (connected f) e d = of-finished f e
 
 -- ---- another numbering and another listing
 
-module _ (ρ : ℕ → ℕ) (n : ℕ) (p p′ : Pool) (l : Lent) (f g : Finished Coordinate Pool) (s : SameFinished stored ρ n f g) where
+module _ (ρ : ℕ → ℕ) (n : ℕ) (p p′ : Pool) (l : Lent) (f g : Finished Point Pool) (s : SameFinished stored ρ n f g) where
   done-alike : SameCall ρ n (after (connected f) p l) (after (connected g) p′ l)
   unfolding after told stored renamed renamedIn
   done-alike =
       record {
-        answer = ap (λ (os : List (Outline Coordinate)). told os Done) (s .outlines);
-        outlines = ap (λ (os : List (Outline Coordinate)). written os l) (s .outlines);
+        answer = ap (λ (os : List (Outline Point)). told os Done) (s .outlines);
+        outlines = ap (λ (os : List (Outline Point)). written os l) (s .outlines);
         pool = s .pool;
       }
 
@@ -64,8 +64,8 @@ module _ (ρ : ℕ → ℕ) (n : ℕ) (p p′ : Pool) (l : Lent) (f g : Finished
   unfolding after told stored renamed renamedIn
   stopped-alike x =
       record {
-        answer = ap (λ (os : List (Outline Coordinate)). told os (Refused (record { number = x .number; place = ρ (x .place) }))) (s .outlines);
-        outlines = ap (λ (os : List (Outline Coordinate)). written os l) (s .outlines);
+        answer = ap (λ (os : List (Outline Point)). told os (Refused (record { number = x .number; place = ρ (x .place) }))) (s .outlines);
+        outlines = ap (λ (os : List (Outline Point)). written os l) (s .outlines);
         pool = s .pool;
       }
 
@@ -78,7 +78,7 @@ module _ (ρ : ℕ → ℕ) (p p′ : Pool) (rn : RenumberedPool ρ p p′) (lis
   unfolding connectEdges after told numberOf
   any-order = go (connectPool p list (roomOf l)) refl
     where
-      go : (x : C.Outcome Coordinate Pool) → connectPool p list (roomOf l) ≡ x → AnyOrder ρ p p′ list l (after x p l) (after (connectPool p′ list′ (roomOf l)) p′ l)
+      go : (x : C.Outcome Point Pool) → connectPool p list (roomOf l) ≡ x → AnyOrder ρ p p′ list l (after x p l) (after (connectPool p′ list′ (roomOf l)) p′ l)
       go (refused x) e =
           record {
             done = λ free d. absurd (not-both (Refused x) x d refl);

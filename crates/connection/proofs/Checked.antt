@@ -2,10 +2,9 @@
 use mathlib.Core.Path.{_≡_, sym, ap, _∙_}
 use mathlib.Core.List.{List, []}
 use Prim.Native.Nat.{ℕ}
-use lib.Ieee.{Float}
 use lib.ListN.{length}
 use Rattle.refusals.specs.declared.Refusal.{Refusal}
-use Rattle.numbers.specs.declared.Coordinate.{Coordinate}
+use Rattle.numbers.specs.declared.Point.{Point}
 use Rattle.events.specs.Binary64.{atBinary64}
 use Rattle.events.specs.Pool.{Pool, size, rowAt, stored}
 use Rattle.checks.specs.declared.Check.{Check}
@@ -27,7 +26,7 @@ passed-small p list corners contours holes k e f =
     let fits = accepted atBinary64 (rowAt p) (size p) list (length (p .points)) (length (p .marks)) (room corners contours holes) (sym e ∙ f) .1 in
     record { list-is = fits .short; pool-is = fits .sizes .few }
 
-module _ (p : Pool) (list : List ℕ) (cs : List (List Float)) (ks : List (List ℕ)) (hs : List ℕ) where
+module _ (p : Pool) (list : List ℕ) (cs : List (List ℕ)) (ks : List (List ℕ)) (hs : List ℕ) where
   abbrev l : Lent
   l = lent cs ks hs
 
@@ -39,7 +38,7 @@ module _ (p : Pool) (list : List ℕ) (cs : List (List Float)) (ks : List (List 
 
   checks-decide : decided checks ≡ connectEdges p list l
   unfolding connectEdges room
-  checks-decide = ap (λ (x : C.Outcome Coordinate Pool). after x p l) (sym (checks-first p list (length cs) (length ks) (length hs)))
+  checks-decide = ap (λ (x : C.Outcome Point Pool). after x p l) (sym (checks-first p list (length cs) (length ks) (length hs)))
 
   module _ (k : Check) (e : k ≡ checks) where
     decides : (k′ : Check) → k ≡ k′ → decided k′ ≡ connectEdges p list l

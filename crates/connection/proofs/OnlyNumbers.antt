@@ -8,7 +8,7 @@ use native.Mathlib.Decide.{ℕ-discrete}
 use borrow.Author.Tests.{ltb-true, ltb-false}
 use lib.Dec.{ltb}
 use lib.ListN.{length}
-use Rattle.numbers.specs.declared.Coordinate.{Coordinate}
+use Rattle.numbers.specs.declared.Point.{Point}
 use Rattle.events.specs.declared.Link.{Link}
 use Rattle.events.specs.Binary64.{atBinary64}
 use Rattle.events.specs.Event.{Event}
@@ -57,7 +57,7 @@ module _ (number : ℕ → Link) (s : Pool) where
       let size = settled-size stored pool-stored number s k in
       lent-then (not-yet k k (omega arith))
       (lent-here (to k) k ks (stored .rowAt (to k) k) _ (omega (arith, size)) refl refl
-      (subst (λ (e : Event Coordinate). (m : ℕ) → m < 12 → among m ks ≡ false → Agree e (withContour (number k) e) m) (sym read) a))
+      (subst (λ (e : Event Point). (m : ℕ) → m < 12 → among m ks ≡ false → Agree e (withContour (number k) e) m) (sym read) a))
 
   reached : (ks : List ℕ) (k r : ℕ) → k ≤ stored .size s → r < k → Saying number s ks r → AsLentBut ks s (to k) r
   unfolding settled settle
@@ -79,7 +79,7 @@ module _ (number : ℕ → Link) (s : Pool) where
   -- a contour that is the one it had
   kept : (r : ℕ) → r < stored .size s → stored .rowAt (to (stored .size s)) r .contour ≡ stored .rowAt s r .contour → stored .rowAt s r .contour ≡ number r
   unfolding withContour
-  kept r l e = sym e ∙ ap (λ (x : Event Coordinate). x .contour) (settled-row stored pool-stored number s (stored .size s) r (omega arith) l)
+  kept r l e = sym e ∙ ap (λ (x : Event Point). x .contour) (settled-row stored pool-stored number s (stored .size s) r (omega arith) l)
 
   pub settled-only : OnlyNumbers s (to (stored .size s))
   unfolding stored

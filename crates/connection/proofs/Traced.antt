@@ -5,8 +5,7 @@ use Prim.Native.Nat.{ℕ, _≤_, _<_}
 use native.Mathlib.Omega.{arith}
 use borrow.Author.Tests.{ne-eqb}
 use lib.ListN.{length, getD, List·getD-eq-default}
-use lib.Ieee.{Float}
-use Rattle.numbers.specs.declared.Coordinate.{Coordinate}
+use Rattle.numbers.specs.declared.Point.{Point}
 use Rattle.events.specs.Coordinates.{same}
 use Rattle.events.specs.Binary64.{atBinary64}
 use Rattle.events.specs.Pool.{Pool, size, rowAt, stored}
@@ -38,7 +37,7 @@ unfolding recordAt
 no-record o i h = sym (List·getD-eq-default o 0 h)
 
 -- each on what the one before it left
-pub all-laid : (t : Rows) (o q ms ms′ : List ℕ) (cs cs′ : List (List Float)) (ks ks′ : List (List ℕ)) (hs hs′ : List ℕ) (x : Traced) (a : Connected) (p p′ : Pool)
+pub all-laid : (t : Rows) (o q ms ms′ : List ℕ) (cs cs′ : List (List ℕ)) (ks ks′ : List (List ℕ)) (hs hs′ : List ℕ) (x : Traced) (a : Connected) (p p′ : Pool)
     → sheet ms′ cs′ ks′ hs′ x ≡ tracedOn t ms cs ks hs → p′ ≡ settledBy q ms′ p → a ≡ answerIn o x → left a p′ (lent cs′ ks′ hs′) ≡ laidDown o q p (tracedOn t ms cs ks hs)
 unfolding laidDown
 all-laid t o q ms ms′ cs cs′ ks ks′ hs hs′ x a p p′ e f g = rw (f, g) (ap (laidDown o q p) e)
@@ -58,7 +57,7 @@ module _ (p : Pool) (list q : List ℕ) (l : Lent) (h : size p ≤ length q) (e 
   abbrev sheetOf : Answer → Tr.Sheet
   sheetOf a = answered (length (tableIn p list)) (T.rowAt void (tableIn p list)) (l .corners) (l .contours) (l .holes) a
 
-  abbrev given : List ℕ → List Contour → Finished Coordinate Pool
+  abbrev given : List ℕ → List Contour → Finished Point Pool
   given ms cs = finished atBinary64 stored p list ms cs
 
   pool-is : (ms : List ℕ) (cs : List Contour) → settledBy q ms p ≡ finished atBinary64 stored p list ms cs .pool

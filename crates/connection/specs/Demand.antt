@@ -8,7 +8,7 @@ use mathlib.Core.List.{List, [], List·Memᴰ}
 use Prim.Native.Nat.{ℕ, _<_, _≤_}
 use lib.ListN.{length}
 use Rattle.refusals.specs.declared.Refusal.{Refusal}
-use Rattle.numbers.specs.declared.Coordinate.{Coordinate}
+use Rattle.numbers.specs.declared.Point.{Point}
 use Rattle.events.specs.Coordinates.{same}
 use Rattle.events.specs.Binary64.{atBinary64}
 use Rattle.events.specs.Renaming.{rename}
@@ -24,17 +24,17 @@ use Rattle.connection.specs.Connection.{Lent, written, told, After, left
 -- ---- a call that is done; x is what is left of it
 
 -- the lent arrays have a place for each corner, contour and hole
-pub record Holds (os : List (Outline Coordinate)) (l : Lent) : Type 0 where
+pub record Holds (os : List (Outline Point)) (l : Lent) : Type 0 where
   pub corners : cornerCount os ≤ length (l .corners)
   pub contours : length os ≤ length (l .contours)
   pub holes : holeCount os ≤ length (l .holes)
 
 -- the first and the last corner of each are one point, by value
-abbrev pub AllClose : List (Outline Coordinate) → Type 0
-AllClose os = (o : Outline Coordinate) → List·Memᴰ o os → closes (same atBinary64) (o .corners) ≡ true
+abbrev pub AllClose : List (Outline Point) → Type 0
+AllClose os = (o : Outline Point) → List·Memᴰ o os → closes (same atBinary64) (o .corners) ≡ true
 
 pub record Outlined (p : Pool) (list : List ℕ) (l : Lent) (x : After) : Type 0 where
-  pub outlines : List (Outline Coordinate)
+  pub outlines : List (Outline Point)
   -- the answer counts them, their corners, their holes and the open ones
   pub answer : x .answer ≡ told outlines Done
   -- and the arrays hold all of them

@@ -41,10 +41,10 @@ fn none_connected(refusal: Refusal) -> Connected
 
 // The contours of the listed records of a pool, and their numbers in it.
 pub fn connect_edges(
-    points: &[[f64; 2]],
+    points: &[[u64; 2]],
     marks: &mut [[u32; 12]],
     list: &[u32],
-    corners: &mut [[f64; 2]],
+    corners: &mut [[u64; 2]],
     contours: &mut [[u32; 6]],
     holes: &mut [u32],
 ) -> Connected

@@ -18,14 +18,14 @@ use tracing::trace;
 
 // The table stands: `order` and `places` tell records by positions and positions by records.
 fn connect_table(
-    points: &[[f64; 2]],
+    points: &[[u64; 2]],
     marks: &mut [[u32; 12]],
     order: &[u32],
     places: &[u32],
     rows: &[[u32; 4]],
-    at: &[[f64; 2]],
+    at: &[[u64; 2]],
     walked: &mut [u32],
-    corners: &mut [[f64; 2]],
+    corners: &mut [[u64; 2]],
     contours: &mut [[u32; 6]],
     holes: &mut [u32],
 ) -> Connected
@@ -38,16 +38,16 @@ fn connect_table(
 
 // The table is laid in the first places of the lent arrays.
 fn connect_in(
-    points: &[[f64; 2]],
+    points: &[[u64; 2]],
     marks: &mut [[u32; 12]],
     list: &[u32],
-    corners: &mut [[f64; 2]],
+    corners: &mut [[u64; 2]],
     contours: &mut [[u32; 6]],
     holes: &mut [u32],
     order: &mut [u32],
     places: &mut [u32],
     rows: &mut [[u32; 4]],
-    at: &mut [[f64; 2]],
+    at: &mut [[u64; 2]],
     walked: &mut [u32],
 ) -> Connected
     requires { ⌜ Small (pool (now points) (now marks)) (now list) × Spacious (pool (now points) (now marks)) (now list) (now order) (now places) (R.lent (now rows) (now at)) (now walked) ⌝ }
@@ -70,10 +70,10 @@ fn connect_in(
 
 // With places for a short list of a small pool.
 fn connect_few(
-    points: &[[f64; 2]],
+    points: &[[u64; 2]],
     marks: &mut [[u32; 12]],
     list: &[u32],
-    corners: &mut [[f64; 2]],
+    corners: &mut [[u64; 2]],
     contours: &mut [[u32; 6]],
     holes: &mut [u32],
 ) -> Connected
@@ -84,7 +84,7 @@ fn connect_few(
     let mut places = [0u32; FEW];
     let row = [0u32; 4];
     let mut rows = [row; FEW];
-    let point = [0.0; 2];
+    let point = [0; 2];
     let mut at = [point; FEW];
     let mut walked = [0u32; FEW];
     connect_in(
@@ -104,10 +104,10 @@ fn connect_few(
 
 // With places for a short list of any pool.
 fn connect_short(
-    points: &[[f64; 2]],
+    points: &[[u64; 2]],
     marks: &mut [[u32; 12]],
     list: &[u32],
-    corners: &mut [[f64; 2]],
+    corners: &mut [[u64; 2]],
     contours: &mut [[u32; 6]],
     holes: &mut [u32],
 ) -> Connected
@@ -118,7 +118,7 @@ fn connect_short(
     let mut places = [0u32; MAX_EVENTS];
     let row = [0u32; 4];
     let mut rows = [row; FEW];
-    let point = [0.0; 2];
+    let point = [0; 2];
     let mut at = [point; FEW];
     let mut walked = [0u32; FEW];
     connect_in(
@@ -138,10 +138,10 @@ fn connect_short(
 
 // With places for any list of any pool.
 fn connect_many(
-    points: &[[f64; 2]],
+    points: &[[u64; 2]],
     marks: &mut [[u32; 12]],
     list: &[u32],
-    corners: &mut [[f64; 2]],
+    corners: &mut [[u64; 2]],
     contours: &mut [[u32; 6]],
     holes: &mut [u32],
 ) -> Connected
@@ -152,7 +152,7 @@ fn connect_many(
     let mut places = [0u32; MAX_EVENTS];
     let row = [0u32; 4];
     let mut rows = [row; MAX_EVENTS];
-    let point = [0.0; 2];
+    let point = [0; 2];
     let mut at = [point; MAX_EVENTS];
     let mut walked = [0u32; MAX_EVENTS];
     connect_in(
@@ -172,10 +172,10 @@ fn connect_many(
 
 // Short lists are most, in small pools above all, and to clear places for any takes longer than to connect them.
 pub fn connect_accepted(
-    points: &[[f64; 2]],
+    points: &[[u64; 2]],
     marks: &mut [[u32; 12]],
     list: &[u32],
-    corners: &mut [[f64; 2]],
+    corners: &mut [[u64; 2]],
     contours: &mut [[u32; 6]],
     holes: &mut [u32],
 ) -> Connected

@@ -45,7 +45,7 @@ rename-contour : {P : Type 0} (ρ : ℕ → ℕ) (l m : Link) (e : Event P) → 
 unfolding withContour rename
 rename-contour ρ l m e = refl
 
-module _ {P S : Type 0} (C : Coordinates P) (K : Store P S) (stored : Stored K) (L : OrderLaws C) (fine : (p : P) → C .fit p ≡ true → L .Fine p)
+module _ {P S : Type 0} (C : Coordinates P) (K : Store P S) (stored : Stored K) (L : OrderLaws C)
     (ρ : ℕ → ℕ) (s s′ : S) (rn : Renumbered ρ (K .size s) (K .rowAt s) (K .rowAt s′)) (one-size : K .size s′ ≡ K .size s)
     (list list′ : List ℕ) (p : Relisted ρ list list′) where
   abbrev n : ℕ
@@ -65,10 +65,10 @@ module _ {P S : Type 0} (C : Coordinates P) (K : Store P S) (stored : Stored K) 
     void = K .blank 0 .point
 
     ords : ordered row′ C list′ ≡ map ρ (ordered row C list)
-    ords = order-kept C L fine ρ n row row′ rn list list′ p void ok free
+    ords = order-kept C L ρ n row row′ rn list list′ p void ok free
 
     tables : table row′ C list′ ≡ table row C list
-    tables = table-kept C L fine ρ n row row′ rn list list′ p void ok free
+    tables = table-kept C L ρ n row row′ rn list list′ p void ok free
 
     traces : traced C K s′ list′ ≡ traced C K s list
     unfolding traced
@@ -240,7 +240,7 @@ module _ {P : Type 0} (same : P → P → Bool) (n : ℕ) (row : ℕ → Row P) 
   none-open [] c h = refl
   none-open (k ∷ l) c h = rw (h .0) (none-open l (suc c) (h .1))
 
-module _ {P S : Type 0} (C : Coordinates P) (K : Store P S) (L : OrderLaws C) (fine : (p : P) → C .fit p ≡ true → L .Fine p)
+module _ {P S : Type 0} (C : Coordinates P) (K : Store P S) (L : OrderLaws C)
     (s : S) (points marks : ℕ) (list : List ℕ) (room : Room) (f : Finished P S) (e : connect C K s points marks list room ≡ connected f) where
   -- the same names as above, for one list
   abbrev recs : ℕ → Event P
@@ -270,7 +270,7 @@ module _ {P S : Type 0} (C : Coordinates P) (K : Store P S) (L : OrderLaws C) (f
           (even (getD ord v 0) (rec-in C recs (K .size s) first-point list (tr .ok) v l))
 
       closed : AllClosed count (rowsAt C K s list) (same C) (tr .contours)
-      closed = all-closed (same C) count (rowsAt C K s list) (good C recs (K .size s) first-point list (tr .ok)) (by-value C recs (K .size s) first-point list (tr .ok) L fine) at-rows (tr .marks) (tr .contours) (tr .trace)
+      closed = all-closed (same C) count (rowsAt C K s list) (good C recs (K .size s) first-point list (tr .ok)) (by-value C recs (K .size s) first-point list (tr .ok) L) at-rows (tr .marks) (tr .contours) (tr .trace)
 
   -- ---- once
 
@@ -330,7 +330,7 @@ module _ {P S : Type 0} (C : Coordinates P) (K : Store P S) (L : OrderLaws C) (f
     unfolding outlines traced
     once =
         let g = good C recs (K .size s) first-point list (tr .ok) in
-        let v = by-value C recs (K .size s) first-point list (tr .ok) L fine in
+        let v = by-value C recs (K .size s) first-point list (tr .ok) L in
         ap (timesWalked recs ord r) (tr .shown)
         ∙ all-walks (tr .contours) (tr .contours) 0 (trails-in (same C) count (rowsAt C K s list) g v (tr .marks) (tr .contours) (tr .trace))
         ∙ each-once (same C) count (rowsAt C K s list) g v (tr .marks) (tr .contours) (tr .trace) j (omega (arith, at-j .0, size C recs first-point list))

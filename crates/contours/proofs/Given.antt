@@ -93,7 +93,7 @@ module _ {P : Type 0} (same : P → P → Bool) (n : ℕ) (row : ℕ → Row P) 
       go (inl e) r = (k, h .0, (c, e))
       go (inr j) r = r j
 
-module _ {P S : Type 0} (C : Coordinates P) (K : Store P S) (L : OrderLaws C) (fine : (p : P) → C .fit p ≡ true → L .Fine p)
+module _ {P S : Type 0} (C : Coordinates P) (K : Store P S) (L : OrderLaws C)
     (s : S) (points marks : ℕ) (list : List ℕ) (room : Room) (f : Finished P S) (e : given (connect C K s points marks list room) ≡ some f) where
   abbrev recs : ℕ → Event P
   recs = K .rowAt s
@@ -116,11 +116,11 @@ module _ {P S : Type 0} (C : Coordinates P) (K : Store P S) (L : OrderLaws C) (f
   -- ---- room
 
   much : (i : ℕ) × (ms : List ℕ)
-      × Amount (same C) count at (good C recs (K .size s) first-point list (sh .ok)) (by-value C recs (K .size s) first-point list (sh .ok) L fine) (sides C recs (K .size s) first-point list (sh .ok)) i ms cs
+      × Amount (same C) count at (good C recs (K .size s) first-point list (sh .ok)) (by-value C recs (K .size s) first-point list (sh .ok) L) (sides C recs (K .size s) first-point list (sh .ok)) i ms cs
   unfolding traced
   much =
       held count _ (sh .answer)
-      (rw (sh .trace) at (amount (same C) count at (good C recs (K .size s) first-point list (sh .ok)) (by-value C recs (K .size s) first-point list (sh .ok) L fine) (sides C recs (K .size s) first-point list (sh .ok))))
+      (rw (sh .trace) at (amount (same C) count at (good C recs (K .size s) first-point list (sh .ok)) (by-value C recs (K .size s) first-point list (sh .ok) L) (sides C recs (K .size s) first-point list (sh .ok))))
 
   contours-few : length cs ≤ length (resultEdges recs list)
   contours-few = omega (arith, much .2 .count, much .2 .left, lefts-open C recs first-point list)
@@ -151,7 +151,7 @@ module _ {P S : Type 0} (C : Coordinates P) (K : Store P S) (L : OrderLaws C) (f
   unfolding traced
   trails =
       held count _ (sh .answer)
-      (rw (sh .trace) at (chained (same C) count at (good C recs (K .size s) first-point list (sh .ok)) (by-value C recs (K .size s) first-point list (sh .ok) L fine)))
+      (rw (sh .trace) at (chained (same C) count at (good C recs (K .size s) first-point list (sh .ok)) (by-value C recs (K .size s) first-point list (sh .ok) L)))
       .2
       .all
 

@@ -10,7 +10,7 @@ use lib.ListN.{length, getD, replicate, length-map}
 use Rattle.events.specs.Coordinates.{Coordinates, same}
 use Rattle.events.specs.Event.{Event, key}
 use Rattle.order.specs.Order.{onSide}
-use Rattle.order.proofs.Laws.{OrderLaws, Valid, same-refl, same-ext}
+use Rattle.order.proofs.Laws.{OrderLaws, same-refl, same-ext}
 use Rattle.checks.specs.Checks.{inOrder}
 use Rattle.checks.specs.Sound.{Sound}
 use Rattle.order.specs.Keys.{keyOf}
@@ -179,23 +179,16 @@ module _ {P : Type 0} (C : Coordinates P) (row : ℕ → Event P) (n : ℕ) (voi
   pub good : Good (length (table row C list)) at
   good = record { near = near; back = back; proper = proper }
 
-  -- ---- where coordinates have the laws of event order
-  module _ (L : OrderLaws C) (fine : (p : P) → C .fit p ≡ true → L .Fine p) where
-    fine-at : (i : ℕ) → i < length (table row C list) → L .Fine (at i .point)
-    fine-at i l = rw (point-is i l) (fine (row (rec i) .point) (sound-result (rec i) (rec-in i l) .fit))
+  -- the partner of every listed record, in the result or not, lies on its proper side
+  pub key-side : (r : ℕ) → List·Memᴰ r list → onSide C (keyOf row r) ≡ true
+  unfolding keyOf key onSide inOrder
+  key-side r m = ok .each r m .ordered
 
+  -- ---- where coordinates have the laws of event order
+  module _ (L : OrderLaws C) where
     pub by-value : ByValue (length (table row C list)) at (same C)
     by-value =
         record {
-          self = λ i l. same-refl L (at i .point) (fine-at i l);
-          alike = λ i j k l m o e. same-ext L (at i .point) (at j .point) (at k .point) (fine-at i l) (fine-at j m) (fine-at k o) e;
-        }
-
-    -- of every listed record, in the result or not: event order reads fit points alone
-    pub valid-key : (r : ℕ) → List·Memᴰ r list → Valid L (keyOf row r)
-    unfolding keyOf key onSide inOrder
-    valid-key r m =
-        record {
-          placed = record { point = fine (row r .point) (ok .each r m .fit); mate = fine (row (mate r) .point) (ok .other-fit r m) };
-          side = ok .each r m .ordered;
+          self = λ i l. same-refl L (at i .point);
+          alike = λ i j k l m o e. same-ext L (at i .point) (at j .point) (at k .point) e;
         }

@@ -10,8 +10,8 @@ use Rattle.events.specs.declared.Link.the-variants.{None, To}
 use Rattle.events.specs.Coordinates.{Coordinates}
 use Rattle.events.specs.Event.{Event, key}
 use Rattle.events.specs.Renaming.{renameLink, rename}
-use Rattle.order.specs.Order.{before}
-use Rattle.order.proofs.Laws.{OrderLaws, Valid, trans, apart}
+use Rattle.order.specs.Order.{before, onSide}
+use Rattle.order.proofs.Laws.{OrderLaws, trans, apart}
 use Rattle.checks.specs.Sound.{LeftIn, Sound}
 use Rattle.order.specs.Keys.{keyOf}
 use Rattle.contours.specs.Result.{keep, inResult, results, resultEdges, earlier, ordered}
@@ -22,7 +22,7 @@ use Rattle.contours.proofs.Lists.{All, Pairs, all-of, all-map, all-perm
 use Rattle.contours.proofs.Sort.{Apart, sort-perm, sort-map}
 use Rattle.contours.proofs.Places.{place-map}
 use Rattle.contours.proofs.Accepted.{Accepted}
-use Rattle.contours.proofs.Good.{sorted, in-list, sound-result, valid-key}
+use Rattle.contours.proofs.Good.{sorted, in-list, sound-result, key-side}
 
 module _ {P : Type 0} (C : Coordinates P) (ρ : ℕ → ℕ) (n : ℕ) (row row′ : ℕ → Event P) (rn : Renumbered ρ n row row′) where
   abbrev Fit : ℕ → Type 0
@@ -77,20 +77,20 @@ module _ {P : Type 0} (C : Coordinates P) (ρ : ℕ → ℕ) (n : ℕ) (row row�
 
 -- ---- the table
 
-module _ {P : Type 0} (C : Coordinates P) (L : OrderLaws C) (fine : (p : P) → C .fit p ≡ true → L .Fine p)
+module _ {P : Type 0} (C : Coordinates P) (L : OrderLaws C)
     (ρ : ℕ → ℕ) (n : ℕ) (row row′ : ℕ → Event P) (rn : Renumbered ρ n row row′)
     (list list′ : List ℕ) (p : Relisted ρ list list′) (void : P) (ok : Accepted C row n list) (free : NoneOneWay C row list) where
   abbrev Fits : ℕ → Type 0
   Fits r = Sound C row n r
 
   abbrev Keyed : ℕ → Type 0
-  Keyed r = Valid L (keyOf row r)
+  Keyed r = onSide C (keyOf row r) ≡ true
 
   abbrev Keyed′ : ℕ → Type 0
-  Keyed′ r = Valid L (keyOf row′ r)
+  Keyed′ r = onSide C (keyOf row′ r) ≡ true
 
   both : (r : ℕ) → List·Memᴰ r (results row list) → Fits r × Keyed r
-  both r m = (sound-result C row n void list ok r m, valid-key C row n void list ok L fine r (in-list C row n void list ok r m .0))
+  both r m = (sound-result C row n void list ok r m, key-side C row n void list ok r (in-list C row n void list ok r m .0))
 
   res-fit : All Fits (results row list)
   res-fit = all-of Fits (results row list) (λ r m. both r m .0)
@@ -113,7 +113,7 @@ module _ {P : Type 0} (C : Coordinates P) (L : OrderLaws C) (fine : (p : P) → 
   unfolding earlier results
   res-apart =
       pairs-of (Apart (earlier row C)) (results row list) (pairs-keep (inResult row) _≢_ list (ok .distinct))
-      (λ a b l m d. apart L (keyOf row a) (keyOf row b) (both a l .1 .placed) (both b m .1 .placed) (free a b l m d))
+      (λ a b l m d. apart L (keyOf row a) (keyOf row b) (free a b l m d))
 
   apart-map : (l : List ℕ) → All Fits l → Pairs (Apart (earlier row C)) l → Pairs (Apart (earlier row′ C)) (map ρ l)
   apart-map [] d h = tt

@@ -1,5 +1,5 @@
 -- Lent arrays that are never too short (refusal 5): a place for each listed event, and half as many for contours and for holes.
-use mathlib.Core.Path.{_≡_, ap}
+use mathlib.Core.Path.{ap}
 use mathlib.Core.Logic.{_≢_}
 use mathlib.Core.Bool.{true}
 use mathlib.Core.List.{List}
@@ -26,7 +26,7 @@ pub record Roomy (list : List ℕ) (room : Room) : Type 0 where
   pub contours : length list ≤ room .contours + room .contours
   pub holes : length list ≤ room .holes + room .holes
 
-module _ {P : Type 0} (C : Coordinates P) (row : ℕ → Event P) (L : OrderLaws C) (fine : (p : P) → C .fit p ≡ true → L .Fine p) (n : ℕ) (list : List ℕ) where
+module _ {P : Type 0} (C : Coordinates P) (row : ℕ → Event P) (L : OrderLaws C) (n : ℕ) (list : List ℕ) where
   results-few : length (results row list) ≤ length list
   unfolding results
   results-few = keep-few (inResult row) list
@@ -36,7 +36,7 @@ module _ {P : Type 0} (C : Coordinates P) (row : ℕ → Event P) (L : OrderLaws
   edges-half void ok =
       let k = length (table row C list) in
       let at = rowAt void (table row C list) in
-      omega (arith, halves (same C) k at (good C row n void list ok) (by-value C row n void list ok L fine) (sides C row n void list ok), lefts-open C row void list, open-le (λ j. true) 0 (replicate k 0), length-replicate {A = ℕ} k 0, size C row void list, length-perm (sorted C row void list))
+      omega (arith, halves (same C) k at (good C row n void list ok) (by-value C row n void list ok L) (sides C row n void list ok), lefts-open C row void list, open-le (λ j. true) 0 (replicate k 0), length-replicate {A = ℕ} k 0, size C row void list, length-perm (sorted C row void list))
 
   module _ (points marks : ℕ) (room : Room) (h : Roomy list room) (x : Refusal) where
     pub cause-not-5 : Cause C row n points marks list room x → x .number ≢ 5

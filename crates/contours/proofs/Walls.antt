@@ -122,7 +122,7 @@ counted row s r (o ∷ os) = ap (λ (k : ℕ). length (keep (isEdgeOf row s r) (
 
 -- ---- a connected list
 
-module _ {P S : Type 0} (C : Coordinates P) (K : Store P S) (L : OrderLaws C) (fine : (p : P) → C .fit p ≡ true → L .Fine p)
+module _ {P S : Type 0} (C : Coordinates P) (K : Store P S) (L : OrderLaws C)
     (s : S) (points marks : ℕ) (list : List ℕ) (room : Room) (f : Finished P S) (e : connect C K s points marks list room ≡ connected f) where
   abbrev recs : ℕ → Event P
   recs = K .rowAt s
@@ -155,14 +155,14 @@ module _ {P S : Type 0} (C : Coordinates P) (K : Store P S) (L : OrderLaws C) (f
     here = outline-at (f .outlines) c l
 
     one-longer : length (getD contours c []) ≡ suc (length (getD trails c []))
-    one-longer = rw (here .corners, here .trail) (one-more C K L fine s points marks list room f is-given (here .outline) (here .member))
+    one-longer = rw (here .corners, here .trail) (one-more C K L s points marks list room f is-given (here .outline) (here .member))
 
     not-empty : 0 < length (getD trails c [])
-    not-empty = rw (here .trail) (never-empty C K L fine s points marks list room f is-given (here .outline) (here .member))
+    not-empty = rw (here .trail) (never-empty C K L s points marks list room f is-given (here .outline) (here .member))
 
     edge-here : (k : ℕ) → k < length (getD trails c []) → (d : P) → ResultEdgeAt C recs list (here .outline) k d (walkedAt c k)
     unfolding walkedAt
-    edge-here k h d = rw (here .trail) (neighbours C K L fine s points marks list room f is-given (here .outline) (here .member) k (rw (here .trail) at h) d)
+    edge-here k h d = rw (here .trail) (neighbours C K L s points marks list room f is-given (here .outline) (here .member) k (rw (here .trail) at h) d)
 
   trail-place : (c k : ℕ) → k < length (getD trails c []) → IsPlace contours c k
   trail-place c k h = omega (arith, h, one-longer c (in-range (λ o. o .trail) (f .outlines) c k h))
@@ -185,10 +185,10 @@ module _ {P S : Type 0} (C : Coordinates P) (K : Store P S) (L : OrderLaws C) (f
         let m = mate-in C recs (K .size s) void list ok (walkedAt c k) walked-result in
         rw (here c in-outlines .corners)
         (left-joins C recs (K .size s) void list ok (walkedAt c k) walked-result _ _ (x .from)
-        (rw (x .to) (same-refl L (recs q .point) (fine (recs q .point) (sound-result C recs (K .size s) void list ok q m .fit)))))
+        (rw (x .to) (same-refl L (recs q .point))))
 
   walked-once : (r : ℕ) → List·Memᴰ r (results recs list) → allTimes (isEdgeOf recs ord r) trails ≡ 1
-  walked-once r m = sym (counted recs ord r (f .outlines)) ∙ D.once C K L fine s points marks list room f e r m
+  walked-once r m = sym (counted recs ord r (f .outlines)) ∙ D.once C K L s points marks list room f e r m
 
   walked-at : (c k r : ℕ) → IsPlace contours c k → leftOf recs (walkedAt c k) ≡ r → HoldsAt (isEdgeOf recs ord r) trails c k
   unfolding isEdgeOf walkedAt

@@ -16,6 +16,8 @@ pub const ONE_AND_HALF: u64 = 0x3ff8_0000_0000_0000;
 
 pub const TWO: u64 = 0x4000_0000_0000_0000;
 
+pub const MINUS_TWO: u64 = 0xc000_0000_0000_0000;
+
 pub const THREE: u64 = 0x4008_0000_0000_0000;
 
 pub const FOUR: u64 = 0x4010_0000_0000_0000;
@@ -41,4 +43,9 @@ pub const MINUS_HUGE: u64 = 0xffe0_0000_0000_0000;
 
 pub const INFINITY: u64 = 0x7ff0_0000_0000_0000;
 
-pub const NAN: u64 = 0x7ff8_0000_0000_0000;
+// Not numbers: quiet with a payload, signalling, and negative.
+pub const QUIET: u64 = 0x7ff8_0000_0000_002a;
+
+pub const SIGNALLING: u64 = 0x7ff0_0000_0000_0001;
+
+pub const NEGATIVE: u64 = 0xffff_ffff_ffff_ffff;

@@ -11,9 +11,8 @@ use crate::pools::USED;
 use crate::pools::X;
 use crate::pools::Y;
 use crate::told;
-use numbers::Coordinate;
+use numbers::Point;
 use records::dividing::divide_segment;
-use text::bits::number_of;
 
 // The places of both arrays.
 struct Places(usize, usize);
@@ -30,12 +29,12 @@ const MIDDLE: Cut = Cut(TWO, ZERO);
 
 // The entry on the first places of both arrays.
 fn lend(
-    points: &mut [[f64; 2]],
+    points: &mut [[u64; 2]],
     marks: &mut [[u32; 12]],
     places: Places,
     used: u32,
     i: u32,
-    cut: Coordinate,
+    cut: Point,
 ) {
     let n = places.0;
     let m = places.1;
@@ -51,10 +50,7 @@ fn case(label: &[u8], places: Places, used: u32, i: u32, s: Segment, cut: Cut, c
     pools::change(&mut points, &mut marks, c);
     let kept_points = points;
     let kept_marks = marks;
-    let at = Coordinate {
-        x: number_of(cut.0),
-        y: number_of(cut.1),
-    };
+    let at = Point { x: cut.0, y: cut.1 };
     told::say(label);
     told::say(b": ");
     lend(&mut points, &mut marks, places, used, i, at);
@@ -120,8 +116,12 @@ pub fn missed() {
         Segment(ZERO, ZERO, ZERO, ONE),
         Cut(ZERO, MINUS_ONE),
     );
-    divided(b"x not a number", LEVEL, Cut(NAN, ZERO));
-    divided(b"y not a number", LEVEL, Cut(TWO, NAN));
+    divided(
+        b"x not a number",
+        Segment(ZERO, ONE, FOUR, ZERO),
+        Cut(NEGATIVE, ZERO),
+    );
+    divided(b"y not a number", LEVEL, Cut(TWO, SIGNALLING));
     divided(b"y infinite", LEVEL, Cut(TWO, INFINITY));
     divided(b"y above 2^100", LEVEL, Cut(TWO, ABOVE));
     divided(
@@ -175,13 +175,13 @@ pub fn checked() {
     named(b"the edge below it not in use", 0, 4, NOWHERE);
     named(b"a place not in use", 6, USED, NOWHERE);
     named(b"a number outside", 8, USED, NOWHERE);
-    named(b"not a number at it", 0, USED, At(0, X, NAN));
+    named(b"not a number at it", 0, USED, At(0, X, SIGNALLING));
     named(b"above 2^100 at its partner", 0, USED, At(1, Y, ABOVE));
     named(
         b"not a number at a right record's partner",
         1,
         USED,
-        At(0, Y, NAN),
+        At(0, Y, NEGATIVE),
     );
     named(b"its partner another's", 0, USED, At(1, PARTNER, 2));
     named(
@@ -193,5 +193,5 @@ pub fn checked() {
     named(b"its partner left", 0, USED, At(1, LEFT, 1));
     named(b"its partner earlier", 0, USED, At(1, X, MINUS_ONE));
     named(b"below it a right record", 0, USED, At(0, BELOW, 5));
-    named(b"not a number elsewhere", 0, USED, At(2, X, NAN));
+    named(b"not a number elsewhere", 0, USED, At(2, X, QUIET));
 }

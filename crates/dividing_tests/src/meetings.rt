@@ -35,7 +35,7 @@ const WITHIN: Segment = Segment(ONE, ZERO, THREE, ZERO);
 const RISING: Segment = Segment(ZERO, MINUS_ONE, FOUR, ONE);
 
 // The entry on the first places of both arrays.
-fn lend(points: &mut [[f64; 2]], marks: &mut [[u32; 12]], places: Places, pair: Pair) {
+fn lend(points: &mut [[u64; 2]], marks: &mut [[u32; 12]], places: Places, pair: Pair) {
     let n = places.0;
     let m = places.1;
     if n <= points.len() && m <= marks.len() {
@@ -185,8 +185,8 @@ pub fn checked() {
     named(b"a number outside", 10, 2, NOWHERE);
     named(b"a right", 1, 2, NOWHERE);
     named(b"b right", 0, 3, NOWHERE);
-    named(b"a right, b not a number", 1, 2, At(2, X, NAN));
-    named(b"not a number at a's partner", 0, 2, At(1, X, NAN));
+    named(b"a right, b not a number", 1, 2, At(2, X, SIGNALLING));
+    named(b"not a number at a's partner", 0, 2, At(1, X, NEGATIVE));
     named(b"above 2^100 at b's partner", 0, 2, At(3, Y, ABOVE));
     named(b"a's partner another's", 0, 2, At(1, PARTNER, 3));
     named(b"b's partner another's", 0, 2, At(3, PARTNER, 0));

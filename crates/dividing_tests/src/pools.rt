@@ -1,8 +1,8 @@
-// A pool of six records that nothing is wrong with, the places after them free, and changes of single numbers in it. Records 0 and 1 are an edge of
-// the subject, 2 and 3 one of the clip; both lie above the edge of 4 and 5.
+// A pool of six records that nothing is wrong with, the places after them free and some not numbers, and changes of single numbers in it.
+// Records 0 and 1 are an edge of the subject, 2 and 3 one of the clip; both lie above the edge of 4 and 5.
 ghost use mathlib.Core.Path.{_≡_};
 ghost use lib.ListN.{length};
-use text::bits::number_of;
+use crate::bits::*;
 
 // One place more than a pool may have.
 pub const PLACES: usize = 4097;
@@ -10,15 +10,17 @@ pub const PLACES: usize = 4097;
 // How many places are in use.
 pub const USED: u32 = 6;
 
-pub fn points() -> [[f64; 2]; 4097]
+pub fn points() -> [[u64; 2]; 4097]
     ensures { λ r. ⌜ 4097 ≡ length r ⌝ }
 {
-    let mut points = [[0.0; 2]; 4097];
-    points[1] = [4.0, 0.0];
-    points[2] = [0.0, 1.0];
-    points[3] = [4.0, 1.0];
-    points[4] = [0.0, -2.0];
-    points[5] = [4.0, -2.0];
+    let mut points = [[0; 2]; 4097];
+    points[1] = [FOUR, ZERO];
+    points[2] = [ZERO, ONE];
+    points[3] = [FOUR, ONE];
+    points[4] = [ZERO, MINUS_TWO];
+    points[5] = [FOUR, MINUS_TWO];
+    points[6] = [QUIET, SIGNALLING];
+    points[8] = [NEGATIVE, QUIET];
     points
 }
 
@@ -73,7 +75,7 @@ fn set_mark(marks: &mut [[u32; 12]], record: usize, field: usize, value: u32) {
     }
 }
 
-fn set_coordinate(points: &mut [[f64; 2]], record: usize, field: usize, value: f64) {
+fn set_coordinate(points: &mut [[u64; 2]], record: usize, field: usize, value: u64) {
     if record < points.len() {
         let mut p = points[record];
         if field < 2 {
@@ -87,18 +89,18 @@ fn low_bits(value: u64) -> u32 {
     (value % 4_294_967_296) as u32
 }
 
-pub fn change(points: &mut [[f64; 2]], marks: &mut [[u32; 12]], c: At) {
+pub fn change(points: &mut [[u64; 2]], marks: &mut [[u32; 12]], c: At) {
     if c.1 < MARKS {
         set_mark(marks, c.0, c.1, low_bits(c.2));
     } else {
-        set_coordinate(points, c.0, c.1 - MARKS, number_of(c.2));
+        set_coordinate(points, c.0, c.1 - MARKS, c.2);
     }
 }
 
 // The ends of the edge whose left end is this record.
-pub fn place(points: &mut [[f64; 2]], left: usize, right: usize, s: Segment) {
-    set_coordinate(points, left, 0, number_of(s.0));
-    set_coordinate(points, left, 1, number_of(s.1));
-    set_coordinate(points, right, 0, number_of(s.2));
-    set_coordinate(points, right, 1, number_of(s.3));
+pub fn place(points: &mut [[u64; 2]], left: usize, right: usize, s: Segment) {
+    set_coordinate(points, left, 0, s.0);
+    set_coordinate(points, left, 1, s.1);
+    set_coordinate(points, right, 0, s.2);
+    set_coordinate(points, right, 1, s.3);
 }

@@ -4,7 +4,6 @@ use division::Division;
 use neighbours::Met;
 use neighbours::Neighbours;
 use refusals::Refusal;
-use text::bits::bits_of;
 
 pub fn say(text: &[u8]) {
     io::write_all(libc::STDOUT_FILENO, text);
@@ -14,9 +13,9 @@ fn say_number(n: u64) {
     io::print_decimal(libc::STDOUT_FILENO, n);
 }
 
-fn say_bits(x: f64) {
+fn say_bits(x: u64) {
     say(b" ");
-    io::print_hex(libc::STDOUT_FILENO, bits_of(x), 16);
+    io::print_hex(libc::STDOUT_FILENO, x, 16);
 }
 
 fn say_if(test: bool, text: &[u8]) {
@@ -59,8 +58,8 @@ pub fn neighbours(answer: Neighbours) {
     say_number(answer.used as u64);
 }
 
-fn is_same_point(p: [f64; 2], q: [f64; 2]) -> bool {
-    (bits_of(p[0]) == bits_of(q[0])) & (bits_of(p[1]) == bits_of(q[1]))
+fn is_same_point(p: [u64; 2], q: [u64; 2]) -> bool {
+    (p[0] == q[0]) & (p[1] == q[1])
 }
 
 fn is_same_row(m: [u32; 12], n: [u32; 12]) -> bool {
@@ -78,7 +77,7 @@ fn say_marks(m: [u32; 12]) {
 }
 
 // A record: its number, the bits of its point, and its twelve marks.
-fn say_record(i: usize, p: [f64; 2], m: [u32; 12]) {
+fn say_record(i: usize, p: [u64; 2], m: [u32; 12]) {
     say(b"\n  ");
     say_number(i as u64);
     say(b":");
@@ -88,7 +87,7 @@ fn say_record(i: usize, p: [f64; 2], m: [u32; 12]) {
 }
 
 // Whether record i is as it was kept; it is told where it is not.
-fn is_kept(i: usize, p: [f64; 2], m: [u32; 12], kept_p: [f64; 2], kept_m: [u32; 12]) -> bool {
+fn is_kept(i: usize, p: [u64; 2], m: [u32; 12], kept_p: [u64; 2], kept_m: [u32; 12]) -> bool {
     let kept = is_same_point(p, kept_p) & is_same_row(m, kept_m);
     if !kept {
         say_record(i, p, m);
@@ -98,9 +97,9 @@ fn is_kept(i: usize, p: [f64; 2], m: [u32; 12], kept_p: [f64; 2], kept_m: [u32; 
 
 // Every record that is not as it was kept.
 pub fn changes(
-    points: &[[f64; 2]; 4097],
+    points: &[[u64; 2]; 4097],
     marks: &[[u32; 12]; 4097],
-    kept_points: &[[f64; 2]; 4097],
+    kept_points: &[[u64; 2]; 4097],
     kept_marks: &[[u32; 12]; 4097],
 ) {
     let mut same = true;

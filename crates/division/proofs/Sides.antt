@@ -17,11 +17,10 @@ use Rattle.order.specs.Keys.{keyOf}
 use Rattle.division.specs.Division.{moves, moved, misses, newEnd, linked, keeps}
 use Rattle.division.specs.Records.{Parted}
 
--- what a kind of coordinate must supply: the laws of event order at fit points, and a step in x that goes beyond every point of that x
-pub record MoveLaws {P : Type 0} (C : Coordinates P) : Type 1 where
+-- what a kind of coordinate must supply: the laws of event order, and a step in x that, where it is fit, goes beyond every point of that x
+pub record MoveLaws {P : Type 0} (C : Coordinates P) : Type 0 where
   pub order : OrderLaws C
-  pub fine : (p : P) → C .fit p ≡ true → order .Fine p
-  pub further : (l p : P) → C .fit l ≡ true → C .fit (C .nextX p) ≡ true → C .sameX p l ≡ true → C .lessX l (C .nextX p) ≡ true
+  pub further : (l p : P) → C .fit (C .nextX p) ≡ true → C .sameX p l ≡ true → C .lessX l (C .nextX p) ≡ true
 
 -- ---- the three tests of two numbers: less, greater, equal
 data Way : Bool → Bool → Bool → Type 0 where
@@ -57,7 +56,7 @@ either-side rest equal less h s = refl
 either-side rest equal more h s = refl
 either-side rest equal equal h s = absurd (true≢false s)
 
-and-left : (a b : Bool) → (a && b) ≡ true → a ≡ true
+pub and-left : (a b : Bool) → (a && b) ≡ true → a ≡ true
 and-left true b h = refl
 and-left false b h = absurd (false≢true h)
 
@@ -66,21 +65,17 @@ or-false true b h = absurd (true≢false h)
 or-false false b h = (refl, h)
 
 module _ {P : Type 0} {C : Coordinates P} (L : MoveLaws C) where
-  x-way : (p q : P) → C .fit p ≡ true → C .fit q ≡ true → Way (C .lessX p q) (C .lessX q p) (C .sameX p q)
+  x-way : (p q : P) → Way (C .lessX p q) (C .lessX q p) (C .sameX p q)
   unfolding grid
-  x-way p q h k =
+  x-way p q =
       let O = L .order in
-      let fp = L .fine p h in
-      let fq = L .fine q k in
-      rw (O .less-x p q fp fq, O .less-x q p fq fp, O .same-x p q fp fq) (way (O .place p .x) (O .place q .x))
+      rw (O .less-x p q, O .less-x q p, O .same-x p q) (way (O .place p .x) (O .place q .x))
 
-  y-way : (p q : P) → C .fit p ≡ true → C .fit q ≡ true → Way (C .lessY p q) (C .lessY q p) (C .sameY p q)
+  y-way : (p q : P) → Way (C .lessY p q) (C .lessY q p) (C .sameY p q)
   unfolding grid
-  y-way p q h k =
+  y-way p q =
       let O = L .order in
-      let fp = L .fine p h in
-      let fq = L .fine q k in
-      rw (O .less-y p q fp fq, O .less-y q p fq fp, O .same-y p q fp fq) (way (O .place p .y) (O .place q .y))
+      rw (O .less-y p q, O .less-y q p, O .same-y p q) (way (O .place p .y) (O .place q .y))
 
   -- what refusal 7 leaves of a cut
   record Hits (l r c : P) : Type 0 where
@@ -99,22 +94,22 @@ module _ {P : Type 0} {C : Coordinates P} (L : MoveLaws C) where
       let four = or-false (C .lessX r c) _ (three .1) in
       record { not-left = one .0; not-right = two .0; from-left = three .0; to-right = four .0; fit = not-false (C .fit c) (four .1) }
 
-  pub cut-after : (l r p : P) → C .fit l ≡ true → misses C l r (moved C l p) ≡ false → ahead C l (moved C l p) ≡ true
+  pub cut-after : (l r p : P) → misses C l r (moved C l p) ≡ false → ahead C l (moved C l p) ≡ true
   unfolding moved moves same ahead
-  cut-after l r p fl h = go (moves C l p) refl h
+  cut-after l r p h = go (moves C l p) refl h
     where
       go : (m : Bool) → moves C l p ≡ m → misses C l r (cond m (C .nextX p) p) ≡ false → ahead C l (cond m (C .nextX p) p) ≡ true
-      go true m h = rw (L .further l p fl (hits l r (C .nextX p) h .fit) (and-left (C .sameX p l) (C .lessY p l) m))
+      go true m h = rw (L .further l p (hits l r (C .nextX p) h .fit) (and-left (C .sameX p l) (C .lessY p l) m))
       go false m h =
           let d = hits l r p h in
-          after (x-way p l (d .fit) fl) (y-way p l (d .fit) fl) (d .from-left) (d .not-left) m
+          after (x-way p l) (y-way p l) (d .from-left) (d .not-left) m
 
-  pub cut-aside : (e f : Event P) (c : P) → C .fit (f .point) ≡ true → misses C (e .point) (f .point) c ≡ false
+  pub cut-aside : (e f : Event P) (c : P) → misses C (e .point) (f .point) c ≡ false
       → cond (keeps C e f c) (ahead C c (f .point)) (ahead C (f .point) c) ≡ true
   unfolding keeps before ahead same newEnd key
-  cut-aside e f c ff h =
+  cut-aside e f c h =
       let d = hits (e .point) (f .point) c h in
-      either-side _ (x-way c (f .point) (d .fit) ff) (y-way c (f .point) (d .fit) ff) (d .to-right) (d .not-right)
+      either-side _ (x-way c (f .point)) (y-way c (f .point)) (d .to-right) (d .not-right)
 
 -- ---- the four ends
 

@@ -5,7 +5,7 @@ use mathlib.Core.Bool.{Bool, true, false, not, cond, true≢false}
 use mathlib.Core.List.{[], _∷_}
 use Prim.Native.Nat.{ℕ, _+_, _<_}
 use native.Mathlib.Omega.{arith}
-use Rattle.numbers.specs.declared.Coordinate.{Coordinate}
+use Rattle.numbers.specs.declared.Point.{Point}
 use Rattle.events.specs.Binary64.{atBinary64}
 use Rattle.events.specs.Event.{Event}
 use Rattle.events.specs.Store.{look}
@@ -24,21 +24,21 @@ use Rattle.division.proofs.AtBinary64.{move-laws}
 
 -- ---- what a record says with another partner, and with another flag too
 
-partner-alone : (e : Event Coordinate) (n k : ℕ) → k < 12 → among k (3 ∷ []) ≡ false → Agree e (linked e n (e .left)) k
+partner-alone : (e : Event Point) (n k : ℕ) → k < 12 → among k (3 ∷ []) ≡ false → Agree e (linked e n (e .left)) k
 unfolding linked
 partner-alone e n = twelve (λ k. among k (3 ∷ []) ≡ false → Agree e (linked e n (e .left)) k) (λ h. left refl) (λ h. subject refl) (λ h. ring refl) (λ h. absurd (true≢false h)) (λ h. there refl) (λ h. below refl) (λ h. edgeType refl) (λ h. transition refl) (λ h. inOut refl) (λ h. otherInOut refl) (λ h. numbered refl) (λ h. contour refl)
 
-flag-too : (e : Event Coordinate) (n : ℕ) (b : Bool) (k : ℕ) → k < 12 → among k (0 ∷ 3 ∷ []) ≡ false → Agree e (linked e n b) k
+flag-too : (e : Event Point) (n : ℕ) (b : Bool) (k : ℕ) → k < 12 → among k (0 ∷ 3 ∷ []) ≡ false → Agree e (linked e n b) k
 unfolding linked
 flag-too e n b = twelve (λ k. among k (0 ∷ 3 ∷ []) ≡ false → Agree e (linked e n b) k) (λ h. absurd (true≢false h)) (λ h. subject refl) (λ h. ring refl) (λ h. absurd (true≢false h)) (λ h. there refl) (λ h. below refl) (λ h. edgeType refl) (λ h. transition refl) (λ h. inOut refl) (λ h. otherInOut refl) (λ h. numbered refl) (λ h. contour refl)
 
-by-flag : (e : Event Coordinate) (n : ℕ) (keep : Bool) (k : ℕ) → k < 12 → among k (cond (not keep) (0 ∷ 3 ∷ []) (3 ∷ [])) ≡ false → Agree e (linked e n (cond keep (e .left) true)) k
+by-flag : (e : Event Point) (n : ℕ) (keep : Bool) (k : ℕ) → k < 12 → among k (cond (not keep) (0 ∷ 3 ∷ []) (3 ∷ [])) ≡ false → Agree e (linked e n (cond keep (e .left) true)) k
 by-flag e n true = partner-alone e n
 by-flag e n false = flag-too e n true
 
 -- ---- the four writes
 
-module _ (s : Pool) (used i : ℕ) (e f : Event Coordinate) (c : Coordinate) (keep : Bool) (room : used + 1 < stored .size s) (in-use : i < used) (mate-in-use : e .partner < used)
+module _ (s : Pool) (used i : ℕ) (e f : Event Point) (c : Point) (keep : Bool) (room : used + 1 < stored .size s) (in-use : i < used) (mate-in-use : e .partner < used)
     (apart : i ≢ e .partner) (at-i : stored .rowAt s i ≡ e) (at-mate : stored .rowAt s (e .partner) ≡ f) where
   abbrev o : ℕ
   o = e .partner
@@ -76,11 +76,11 @@ module _ (s : Pool) (used i : ℕ) (e f : Event Coordinate) (c : Coordinate) (ke
 
 -- ---- the division
 
-module _ (s : Pool) (used i : ℕ) (p : Coordinate) where
-  abbrev row : ℕ → Event Coordinate
+module _ (s : Pool) (used i : ℕ) (p : Point) where
+  abbrev row : ℕ → Event Point
   row r = look stored s used r
 
-  pub untouched : (d : Divided) → divide atBinary64 stored s used i p .answer ≡ Done d → Segment atBinary64 row used i
+  pub untouched : (d : Divided) → divide atBinary64 stored s used i p .answer ≡ Done d → Segment row used i
       → Untouched s (divide atBinary64 stored s used i p .store) used i (row i .partner) (d .swapped)
   unfolding done
   untouched d h w =

@@ -18,12 +18,10 @@ use Rattle.division.proofs.Pairs.{right-paired, left-paired, still-pair
 use Rattle.division.proofs.Outcomes.{Passed, passed}
 use Rattle.division.proofs.Sides.{MoveLaws, Sides, sides, cut-after, cut-aside}
 
--- a segment that refusals 2 and 4 pass: its ends name each other, the second is a right end, and both points are fit
-pub record Segment {P : Type 0} (C : Coordinates P) (row : ℕ → Event P) (n i : ℕ) : Type 0 where
+-- a segment that refusal 4 passes: its ends name each other, and the second is a right end
+pub record Segment {P : Type 0} (row : ℕ → Event P) (n i : ℕ) : Type 0 where
   pub paired : Paired row n i
   pub right : row (row i .partner) .left ≡ false
-  pub fit : C .fit (row i .point) ≡ true
-  pub fit-other : C .fit (row (row i .partner) .point) ≡ true
 
 -- row' reads the records after the division of row's segment i at the cut c, which move says was moved
 pub record Whole {P : Type 0} (C : Coordinates P) (row row' : ℕ → Event P) (n i : ℕ) (c : P) (move : Bool) (d : Divided) : Type 0 where
@@ -59,7 +57,7 @@ module _ {P S : Type 0} {C : Coordinates P} {K : Store P S} (M : MoveLaws C) (L 
   unfolding done
   told d h g = let same : Done tells ≡ Done d = sym (ap (λ a. a .answer) (g .is)) ∙ h in cc
 
-  parts : Passed C K s used i p → Segment C row used i → Whole C row (look K (parted K s used i (row i) (row o) c keep) (used + 2)) used i c (moves C (row i .point) p) tells
+  parts : Passed C K s used i p → Segment row used i → Whole C row (look K (parted K s used i (row i) (row o) c keep) (used + 2)) used i c (moves C (row i .point) p) tells
   parts g w =
       let apart : i ≢ o = λ e. true≢false (sym (g .left) ∙ ap (λ r. row r .left) e ∙ w .right) in
       let free = g .free in
@@ -73,10 +71,10 @@ module _ {P S : Type 0} {C : Coordinates P} {K : Store P S} (M : MoveLaws C) (L 
         new-right = right-paired all pair;
         new-left = left-paired all pair;
         still = still-paired all pair;
-        on-sides = sides C all (g .left) (w .right) (cut-after M (row i .point) (row o .point) p (w .fit) (g .hits)) (cut-aside M (row i) (row o) c (w .fit-other) (g .hits));
+        on-sides = sides C all (g .left) (w .right) (cut-after M (row i .point) (row o .point) p (g .hits)) (cut-aside M (row i) (row o) c (g .hits));
       }
 
-  pub whole : (d : Divided) → after .answer ≡ Done d → Segment C row used i → Whole C row (look K (after .store) (after .used)) used i c (moves C (row i .point) p) d
+  pub whole : (d : Divided) → after .answer ≡ Done d → Segment row used i → Whole C row (look K (after .store) (after .used)) used i c (moves C (row i .point) p) d
   unfolding done
   whole d h w =
       let g = passed C K s used i p d h in

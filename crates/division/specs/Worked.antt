@@ -3,40 +3,38 @@ use mathlib.Core.Path.{_≡_}
 use mathlib.Core.Bool.{Bool, true, false}
 use mathlib.Core.List.{List, [], _∷_}
 use Prim.Native.Nat.{ℕ}
-use lib.IntN.{pos, negsuc}
-use lib.Ieee.{Float, fin}
-use Rattle.numbers.specs.declared.Coordinate.{Coordinate}
+use Rattle.numbers.specs.declared.Point.{Point}
 use Rattle.events.specs.Binary64.{atBinary64}
 use Rattle.events.specs.Store.{look}
 use Rattle.events.specs.Pool.{Pool, pool, stored}
 use Rattle.division.specs.declared.Division.the-variants.{Done}
 use Rattle.division.specs.Division.{After, divide}
 
--- ---- `fin s m e` is m * 2^e, negative where s is true
+-- ---- the patterns of the numbers
 
-abbrev pub zero : Float
-zero = fin false 0 (pos 0)
+abbrev pub zero : ℕ
+zero = 0
 
-abbrev pub half : Float
-half = fin false 1 (negsuc 0)
+abbrev pub half : ℕ
+half = 0x3fe0_0000_0000_0000
 
-abbrev pub one : Float
-one = fin false 1 (pos 0)
+abbrev pub one : ℕ
+one = 0x3ff0_0000_0000_0000
 
-abbrev pub oneAndHalf : Float
-oneAndHalf = fin false 3 (negsuc 0)
+abbrev pub oneAndHalf : ℕ
+oneAndHalf = 0x3ff8_0000_0000_0000
 
-abbrev pub two : Float
-two = fin false 1 (pos 1)
+abbrev pub two : ℕ
+two = 0x4000_0000_0000_0000
 
-abbrev pub four : Float
-four = fin false 1 (pos 2)
+abbrev pub four : ℕ
+four = 0x4010_0000_0000_0000
 
 -- 2^-1074
-abbrev pub least : Float
-least = fin false 1 (negsuc 1073)
+abbrev pub least : ℕ
+least = 1
 
-abbrev pub at : Float → Float → Coordinate
+abbrev pub at : ℕ → ℕ → Point
 at a b = record { x = a; y = b }
 
 -- ---- the segment's two records, and two free places
@@ -44,7 +42,7 @@ at a b = record { x = a; y = b }
 abbrev pub marks : ℕ → ℕ → List ℕ
 marks left partner = left ∷ 1 ∷ 0 ∷ partner ∷ 0 ∷ 0 ∷ 0 ∷ 0 ∷ 0 ∷ 0 ∷ 0 ∷ 0 ∷ []
 
-abbrev pub segment : Coordinate → Coordinate → Pool
+abbrev pub segment : Point → Point → Pool
 segment l r =
     pool ((l .x ∷ l .y ∷ []) ∷ (r .x ∷ r .y ∷ []) ∷ (zero ∷ zero ∷ []) ∷ (zero ∷ zero ∷ []) ∷ [])
     (marks 1 1 ∷ marks 0 0 ∷ marks 0 0 ∷ marks 0 0 ∷ [])
@@ -57,7 +55,7 @@ flagsOf after = flag 0 ∷ flag 1 ∷ flag 2 ∷ flag 3 ∷ []
     flag r = look stored (after .store) (after .used) r .left
 
 -- a division done with both new ends at a point, and the flags of the four records after it
-pub record Cut (after : After Pool) (moved swapped : Bool) (p : Coordinate) (flags : List Bool) : Type 0 where
+pub record Cut (after : After Pool) (moved swapped : Bool) (p : Point) (flags : List Bool) : Type 0 where
   pub answer-is : after .answer ≡ Done (record { right = 2; left = 3; moved = moved; swapped = swapped })
   pub right-at : look stored (after .store) (after .used) 2 .point ≡ p
   pub left-at : look stored (after .store) (after .used) 3 .point ≡ p

@@ -8,12 +8,12 @@ ghost use Rattle.division.specs.Division as Spec;
 ghost use Rattle.division.specs.Division.{newEnd};
 use events::Event;
 use events::fresh_event;
-use numbers::Coordinate;
+use numbers::Point;
 use order::before;
 use order::key_of;
 
 // A new end of the edge of e.
-pub fn new_end(e: Event, point: Coordinate, left: bool, partner: u32) -> Event
+pub fn new_end(e: Event, point: Point, left: bool, partner: u32) -> Event
     ensures { λ r. ⌜ shown r ≡ newEnd (shown e) point left partner ⌝ }
 {
     fresh_event(point, left, e.subject, e.ring, partner)
@@ -47,7 +47,7 @@ pub fn flag_after(left: bool, keep: bool) -> bool
 }
 
 // The new left end comes before the old right end f: otherwise their flags change places.
-pub fn keeps(e: Event, f: Event, c: Coordinate) -> bool
+pub fn keeps(e: Event, f: Event, c: Point) -> bool
     ensures { λ r. ⌜ r ≡ Spec.keeps atBinary64 (shown e) (shown f) c ⌝ }
 {
     let left = key_of(new_end(e, c, true, e.partner), f.point);

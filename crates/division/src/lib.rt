@@ -22,7 +22,7 @@ use events::Event;
 use events::pool::enter_event;
 use events::pool::read_used;
 use events::pool::store_event;
-use numbers::Coordinate;
+use numbers::Point;
 use refusals::CUT;
 use refusals::FULL;
 use refusals::Refusal;
@@ -57,7 +57,7 @@ fn refused(number: u64, i: u32) -> Division
 }
 
 // Fewer than two places are free.
-fn is_full(points: &[[f64; 2]], marks: &[[u32; 12]], used: u32) -> bool
+fn is_full(points: &[[u64; 2]], marks: &[[u32; 12]], used: u32) -> bool
     ensures { λ r. ⌜ r ≡ full stored (pool (now (points .entry)) (now (marks .entry))) used ⌝ }
 {
     let last = used as usize + 1;
@@ -72,13 +72,13 @@ fn is_full(points: &[[f64; 2]], marks: &[[u32; 12]], used: u32) -> bool
 
 // The four records of a divided segment, whose ends are e, at i, and f.
 fn part(
-    points: &mut [[f64; 2]],
+    points: &mut [[u64; 2]],
     marks: &mut [[u32; 12]],
     used: u32,
     i: u32,
     e: Event,
     f: Event,
-    c: Coordinate,
+    c: Point,
     keep: bool,
 )
     requires { ⌜ used + 1 < numbers ⌝ }
@@ -97,11 +97,11 @@ fn part(
 
 // Divides the segment of record i at a cut, where the first `used` places are in use.
 pub fn divide_segment(
-    points: &mut [[f64; 2]],
+    points: &mut [[u64; 2]],
     marks: &mut [[u32; 12]],
     used: u32,
     i: u32,
-    cut: Coordinate,
+    cut: Point,
 ) -> Division
     ensures { λ r. ⌜ r ≡ divide atBinary64 stored (pool (now (points .entry)) (now (marks .entry))) used i cut .answer ⌝ }
     ensures { λ _. ⌜ pool (now (points .exit)) (now (marks .exit)) ≡ divide atBinary64 stored (pool (now (points .entry)) (now (marks .entry))) used i cut .store ⌝ }

@@ -1,6 +1,8 @@
 // What C and Rust call: numbers in, numbers out. include/bezorika.h says the same in plain words.
-// Each answers 0, or the number of a refusal; an output that a call does not name stays as lent.
+// Each answers 0, or the number of a refusal; an output that a call does not name stays as lent, to the bit: corners are lent as words.
 ghost use mathlib.Core.Path.{_≡_};
+ghost use mathlib.Core.List.{map};
+ghost use lib.Ieee.{binary64, toBits};
 ghost use lib.Seq.{sets};
 ghost use Rattle.orientation.specs.Orientation as Orientation;
 ghost use Rattle.crossing.specs.Crossing.{crossingIn};
@@ -10,6 +12,7 @@ ghost use Rattle.entries.specs.ToldTurn as ToldTurn;
 ghost use Rattle.entries.specs.ToldCrossing as ToldCrossing;
 use crossing::Crossed;
 use crossing::LineIntersection;
+use numbers::words::word;
 use orientation::Oriented;
 use orientation::Sign;
 
@@ -58,9 +61,9 @@ pub extern "C" fn bezorika_orientation(
 }
 
 // The answer's number and its corners put into what the caller lends.
-fn tell_crossing(found: LineIntersection, kind: &mut u64, corners: &mut [f64; 4])
+fn tell_crossing(found: LineIntersection, kind: &mut u64, corners: &mut [u64; 4])
     ensures { λ _. ⌜ now (kind .exit) ≡ numberOf found ⌝ }
-    ensures { λ _. ⌜ now (corners .exit) ≡ sets (now (corners .entry)) 0 (valuesOf found) ⌝ }
+    ensures { λ _. ⌜ now (corners .exit) ≡ sets (now (corners .entry)) 0 (map (toBits binary64) (valuesOf found)) ⌝ }
 {
     match found {
         LineIntersection::None => {
@@ -68,15 +71,15 @@ fn tell_crossing(found: LineIntersection, kind: &mut u64, corners: &mut [f64; 4]
         }
         LineIntersection::Point(p) => {
             *kind = 1;
-            corners[0] = p.x;
-            corners[1] = p.y;
+            corners[0] = word(p.x);
+            corners[1] = word(p.y);
         }
         LineIntersection::Overlap(p, q) => {
             *kind = 2;
-            corners[0] = p.x;
-            corners[1] = p.y;
-            corners[2] = q.x;
-            corners[3] = q.y;
+            corners[0] = word(p.x);
+            corners[1] = word(p.y);
+            corners[2] = word(q.x);
+            corners[3] = word(q.y);
         }
         LineIntersection::Lost => {
             *kind = 3;
@@ -85,7 +88,7 @@ fn tell_crossing(found: LineIntersection, kind: &mut u64, corners: &mut [f64; 4]
 }
 
 // What a crossing tells put into what the caller lends.
-fn tell_crossed(crossed: Crossed, kind: &mut u64, corners: &mut [f64; 4], place: &mut u64) -> u64
+fn tell_crossed(crossed: Crossed, kind: &mut u64, corners: &mut [u64; 4], place: &mut u64) -> u64
     ensures { λ r. ⌜ r ≡ ToldCrossing.refusal crossed ⌝ }
     ensures { λ _. ⌜ now (kind .exit) ≡ ToldCrossing.kind crossed (now (kind .entry)) ⌝ }
     ensures { λ _. ⌜ now (corners .exit) ≡ ToldCrossing.corners crossed (now (corners .entry)) ⌝ }
@@ -114,7 +117,7 @@ pub extern "C" fn bezorika_crossing(
     dx: f64,
     dy: f64,
     kind: &mut u64,
-    corners: &mut [f64; 4],
+    corners: &mut [u64; 4],
     place: &mut u64,
 ) -> u64
     ensures { λ r. ⌜ r ≡ ToldCrossing.refusal (crossingIn plain ax ay bx by cx cy dx dy) ⌝ }
@@ -138,7 +141,7 @@ pub extern "C" fn bezorika_crossing_ordered(
     dx: f64,
     dy: f64,
     kind: &mut u64,
-    corners: &mut [f64; 4],
+    corners: &mut [u64; 4],
     place: &mut u64,
 ) -> u64
     ensures { λ r. ⌜ r ≡ ToldCrossing.refusal (crossingIn ordered ax ay bx by cx cy dx dy) ⌝ }

@@ -6,10 +6,9 @@ use mathlib.Core.List.{List, [], _∷_}
 use Prim.Native.Nat.{ℕ, zero, suc, _<_}
 use native.Mathlib.Omega.{arith}
 use borrow.Author.Tests.{lt-ltb}
-use lib.Ieee.{Float, nan}
 use lib.ListN.{length, getD}
 use lib.Seq.{getD-set-same, getD-set-other}
-use Rattle.numbers.specs.declared.Coordinate.{Coordinate}
+use Rattle.numbers.specs.declared.Point.{Point}
 use Rattle.events.specs.Event.{Event}
 use Rattle.events.specs.Pool.{Pool, size, flagOf, flagNumber, edgeTypeOf, edgeTypeNumber, transitionOf, transitionNumber, eventOf, pointOf, marksOf, marksOver, rowAt, enter, store, stored}
 use Rattle.events.specs.Lent.{markAt, coordinateAt, among, AsLentBut}
@@ -46,7 +45,7 @@ pub data Agree {P : Type 0} (a b : Event P) : ℕ → Type 0 where
   numbered : a .contour ≡ b .contour → Agree a b 10
   contour : a .contour ≡ b .contour → Agree a b 11
 
-pub over-kept : (q : List Float) (m : List ℕ) (e : Event Coordinate) (k : ℕ) → Agree (eventOf q m) e k → getD (marksOver m e) k 0 ≡ getD m k 0
+pub over-kept : (q : List ℕ) (m : List ℕ) (e : Event Point) (k : ℕ) → Agree (eventOf q m) e k → getD (marksOver m e) k 0 ≡ getD m k 0
 unfolding eventOf marksOver
 over-kept q m e k (left h) = over-lent flagOf flagNumber (getD m 0 0) (e .left) h
 over-kept q m e k (subject h) = over-lent flagOf flagNumber (getD m 1 0) (e .subject) h
@@ -61,9 +60,9 @@ over-kept q m e k (otherInOut h) = over-lent flagOf flagNumber (getD m 9 0) (e .
 over-kept q m e k (numbered h) = there-lent (getD m 10 0) (getD m 11 0) (e .contour) h
 over-kept q m e k (contour h) = link-lent (getD m 10 0) (getD m 11 0) (e .contour) h
 
-pair-kept : (c : Coordinate) (q : List Float) → record { x = getD q 0 nan; y = getD q 1 nan } ≡ c → (k : ℕ) → k < 2 → getD (c .x ∷ c .y ∷ []) k nan ≡ getD q k nan
-pair-kept c q h zero l = ap (λ (d : Coordinate). d .x) (sym h)
-pair-kept c q h (suc zero) l = ap (λ (d : Coordinate). d .y) (sym h)
+pair-kept : (c : Point) (q : List ℕ) → record { x = getD q 0 0; y = getD q 1 0 } ≡ c → (k : ℕ) → k < 2 → getD (c .x ∷ c .y ∷ []) k 0 ≡ getD q k 0
+pair-kept c q h zero l = ap (λ (d : Point). d .x) (sym h)
+pair-kept c q h (suc zero) l = ap (λ (d : Point). d .y) (sym h)
 pair-kept c q h (suc (suc k)) l = absurd (omega arith)
 
 -- the record that both rows are read as
@@ -73,27 +72,27 @@ read-at p i h = rw (lt-ltb i (length (p .points)) (omega arith), lt-ltb i (lengt
 
 -- ---- a record stored over f, which is read there, and agreeing with it in all but these marks
 
-mark-here : (p : Pool) (i : ℕ) (f e : Event Coordinate) (k : ℕ) → i < size p → eventOf (getD (p .points) i []) (getD (p .marks) i []) ≡ f → Agree f e k → markAt (store p i e) i k ≡ markAt p i k
+mark-here : (p : Pool) (i : ℕ) (f e : Event Point) (k : ℕ) → i < size p → eventOf (getD (p .points) i []) (getD (p .marks) i []) ≡ f → Agree f e k → markAt (store p i e) i k ≡ markAt p i k
 unfolding size store
 mark-here p i f e k h read a =
     rw (getD-set-same (p .marks) i (marksOver (getD (p .marks) i []) e) [] (omega arith))
-    (over-kept (getD (p .points) i []) (getD (p .marks) i []) e k (subst (λ (g : Event Coordinate). Agree g e k) (sym read) a))
+    (over-kept (getD (p .points) i []) (getD (p .marks) i []) e k (subst (λ (g : Event Point). Agree g e k) (sym read) a))
 
-coordinate-here : (p : Pool) (i : ℕ) (e : Event Coordinate) (k : ℕ) → i < size p → eventOf (getD (p .points) i []) (getD (p .marks) i []) .point ≡ e .point → k < 2
+coordinate-here : (p : Pool) (i : ℕ) (e : Event Point) (k : ℕ) → i < size p → eventOf (getD (p .points) i []) (getD (p .marks) i []) .point ≡ e .point → k < 2
     → coordinateAt (store p i e) i k ≡ coordinateAt p i k
 unfolding size store eventOf pointOf
 coordinate-here p i e k h read l = rw (getD-set-same (p .points) i (pointOf e) [] (omega arith)) (pair-kept (e .point) (getD (p .points) i []) read k l)
 
-pub lent-here : (p : Pool) (i : ℕ) (ks : List ℕ) (f e : Event Coordinate) → i < stored .size p → stored .rowAt p i ≡ f → f .point ≡ e .point
+pub lent-here : (p : Pool) (i : ℕ) (ks : List ℕ) (f e : Event Point) → i < stored .size p → stored .rowAt p i ≡ f → f .point ≡ e .point
     → ((k : ℕ) → k < 12 → among k ks ≡ false → Agree f e k) → AsLentBut ks p (stored .store p i e) i
 unfolding stored
 lent-here p i ks f e h r c a =
     let read = sym (read-at p i h) ∙ r in
-    record { marks = λ k l n. mark-here p i f e k h read (a k l n); point = λ k l. coordinate-here p i e k h (ap (λ (d : Event Coordinate). d .point) read ∙ c) l }
+    record { marks = λ k l n. mark-here p i f e k h read (a k l n); point = λ k l. coordinate-here p i e k h (ap (λ (d : Event Point). d .point) read ∙ c) l }
 
 -- ---- every other record
 
-module _ (p : Pool) (i j : ℕ) (e : Event Coordinate) (d : j ≢ i) where
+module _ (p : Pool) (i j : ℕ) (e : Event Point) (d : j ≢ i) where
   pub points-away : getD (stored .store p i e .points) j [] ≡ getD (p .points) j []
   unfolding stored store
   points-away = getD-set-other (p .points) i j (pointOf e) [] d
@@ -112,9 +111,9 @@ module _ (p : Pool) (i j : ℕ) (e : Event Coordinate) (d : j ≢ i) where
 
 -- both rows as lent
 whole-rows : (p q : Pool) (r : ℕ) → getD (q .points) r [] ≡ getD (p .points) r [] → getD (q .marks) r [] ≡ getD (p .marks) r [] → AsLentBut [] p q r
-whole-rows p q r a b = record { marks = λ k l n. ap (λ (m : List ℕ). getD m k 0) b; point = λ k l. ap (λ (m : List Float). getD m k nan) a }
+whole-rows p q r a b = record { marks = λ k l n. ap (λ (m : List ℕ). getD m k 0) b; point = λ k l. ap (λ (m : List ℕ). getD m k 0) a }
 
-module _ (p : Pool) (i j : ℕ) (e : Event Coordinate) (d : j ≢ i) where
+module _ (p : Pool) (i j : ℕ) (e : Event Point) (d : j ≢ i) where
   pub lent-away : AsLentBut [] p (stored .store p i e) j
   lent-away = whole-rows p (stored .store p i e) j (points-away p i j e d) (marks-away p i j e d)
 

@@ -1,4 +1,4 @@
--- Laws of the pool. Callers cite these and never look behind `rowAt`, `enter` and `store`.
+-- Laws of the pool, and of runs of words. Callers cite these and never look behind `rowAt`, `enter` and `store`, nor into a run.
 pub mod Codes
 pub mod Over
 pub mod Stored
@@ -6,3 +6,4 @@ pub mod Rows
 pub mod Looks
 pub mod Faces
 pub mod Lent
+pub mod Runs

@@ -7,7 +7,7 @@ use native.Mathlib.Omega.{arith}
 use borrow.Author.Tests.{lt-ltb}
 use lib.ListN.{length, getD, length-set}
 use lib.Seq.{getD-set-same, getD-set-other}
-use Rattle.numbers.specs.declared.Coordinate.{Coordinate}
+use Rattle.numbers.specs.declared.Point.{Point}
 use Rattle.events.specs.Event.{Event}
 use Rattle.events.specs.Store.{Store}
 use Rattle.events.proofs.Codes.{flag, link, edgeType, transition}
@@ -15,12 +15,12 @@ use Rattle.events.proofs.Over.{over-says, link-says}
 use Rattle.events.specs.Pool.{Pool, size, flagOf, flagNumber, edgeTypeOf, edgeTypeNumber, transitionOf, transitionNumber, eventOf, pointOf, marksOf, marksOver, rowAt, withRows, enter, store, stored}
 
 -- no two records share their rows
-pub back : (e : Event Coordinate) → eventOf (pointOf e) (marksOf e) ≡ e
+pub back : (e : Event Point) → eventOf (pointOf e) (marksOf e) ≡ e
 unfolding eventOf pointOf marksOf
 back e = rw (flag (e .left), flag (e .subject), flag (e .inOut), flag (e .otherInOut), link (e .below), link (e .contour), edgeType (e .edgeType), transition (e .transition))
 
 -- .. nor over lent marks
-pub back-over : (m : List ℕ) (e : Event Coordinate) → eventOf (pointOf e) (marksOver m e) ≡ e
+pub back-over : (m : List ℕ) (e : Event Point) → eventOf (pointOf e) (marksOver m e) ≡ e
 unfolding eventOf pointOf marksOver
 back-over m e =
     rw
@@ -28,7 +28,7 @@ back-over m e =
 
 -- ---- with any marks that are the record's own
 
-module _ (p : Pool) (i : ℕ) (e : Event Coordinate) (m : List ℕ) where
+module _ (p : Pool) (i : ℕ) (e : Event Point) (m : List ℕ) where
   size-rows : size (withRows p i e m) ≡ size p
   unfolding size
   size-rows = rw (length-set (p .points) i (pointOf e), length-set (p .marks) i m)

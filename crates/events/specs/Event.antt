@@ -1,7 +1,7 @@
 -- What an event record is, over any kind of point. Record numbers are counted from 0.
 use mathlib.Core.Bool.{Bool, true, false}
 use Prim.Native.Nat.{ℕ}
-use Rattle.numbers.specs.declared.Coordinate.{Coordinate}
+use Rattle.numbers.specs.declared.Point.{Point}
 use Rattle.events.specs.declared.EdgeType.{EdgeType}
 use Rattle.events.specs.declared.EdgeType.the-variants.{Normal}
 use Rattle.events.specs.declared.ResultTransition.{ResultTransition}
@@ -60,7 +60,7 @@ unfoldable pub key : {P : Type 0} → Event P → P → Key P
 key e p = record { point = e .point; left = e .left; subject = e .subject; ring = e .ring; mate = p }
 
 -- the struct of the code, at binary64
-abbrev pub shown : D.Event → Event Coordinate
+abbrev pub shown : D.Event → Event Point
 shown e =
     record {
       point = e .point;

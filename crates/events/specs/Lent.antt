@@ -5,15 +5,14 @@ use mathlib.Core.List.{List, [], _∷_}
 use Prim.Native.Nat.{ℕ, _<_}
 use lib.Dec.{eqb}
 use lib.ListN.{getD}
-use lib.Ieee.{Float, nan}
 use Rattle.events.specs.Pool.{Pool}
 
 -- the number in mark k of record r, and its coordinate k
 abbrev pub markAt : Pool → ℕ → ℕ → ℕ
 markAt p r k = getD (getD (p .marks) r []) k 0
 
-abbrev pub coordinateAt : Pool → ℕ → ℕ → Float
-coordinateAt p r k = getD (getD (p .points) r []) k nan
+abbrev pub coordinateAt : Pool → ℕ → ℕ → ℕ
+coordinateAt p r k = getD (getD (p .points) r []) k 0
 
 abbrev pub among : ℕ → List ℕ → Bool
 among k [] = false

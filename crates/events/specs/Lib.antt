@@ -1,4 +1,4 @@
--- The event record over any kind of coordinate, another numbering of records, the pool that holds records and what is left of it as lent, and binary64 as the kind that the code uses.
+-- The event record over any kind of coordinate, another numbering of records, the pool that holds records and what is left of it as lent, binary64 as the kind that the code uses, and runs of its words.
 pub mod Coordinates
 pub mod Event
 pub mod Renaming
@@ -6,3 +6,4 @@ pub mod Store
 pub mod Pool
 pub mod Lent
 pub mod Binary64
+pub mod Runs

@@ -5,9 +5,7 @@ use mathlib.Core.List.{List, [], _∷_}
 use Prim.Native.Nat.{ℕ, min}
 use lib.Dec.{eqb, ltb}
 use lib.ListN.{length, getD, set}
-use lib.Ieee.{Float, nan}
-use Rattle.numbers.specs.Binary64 as B
-use Rattle.numbers.specs.declared.Coordinate.{Coordinate}
+use Rattle.numbers.specs.declared.Point.{Point}
 use Rattle.events.specs.declared.EdgeType.{EdgeType}
 use Rattle.events.specs.declared.EdgeType.the-variants.{Normal, NonContributing, SameTransition, DifferentTransition}
 use Rattle.events.specs.declared.ResultTransition.{ResultTransition}
@@ -18,10 +16,10 @@ use Rattle.events.specs.Event.{Event, fresh}
 use Rattle.events.specs.Store.{Store}
 
 pub record Pool : Type 0 where
-  pub points : List (List Float)
+  pub points : List (List ℕ)
   pub marks : List (List ℕ)
 
-abbrev pub pool : List (List Float) → List (List ℕ) → Pool
+abbrev pub pool : List (List ℕ) → List (List ℕ) → Pool
 pool p m = record { points = p; marks = m }
 
 unfoldable pub size : Pool → ℕ
@@ -72,10 +70,10 @@ sameLink (To a) (To b) = eqb a b
 
 -- ---- a record in its two rows
 
-unfoldable pub eventOf : List Float → List ℕ → Event Coordinate
+unfoldable pub eventOf : List ℕ → List ℕ → Event Point
 eventOf q m =
     record {
-      point = record { x = getD q 0 nan; y = getD q 1 nan };
+      point = record { x = getD q 0 0; y = getD q 1 0 };
       left = flagOf (getD m 0 0);
       subject = flagOf (getD m 1 0);
       ring = getD m 2 0;
@@ -88,10 +86,10 @@ eventOf q m =
       contour = linkOf (getD m 10 0) (getD m 11 0);
     }
 
-unfoldable pub pointOf : Event Coordinate → List Float
+unfoldable pub pointOf : Event Point → List ℕ
 pointOf e = e .point .x ∷ e .point .y ∷ []
 
-unfoldable pub marksOf : Event Coordinate → List ℕ
+unfoldable pub marksOf : Event Point → List ℕ
 marksOf e =
     flagNumber (e .left)
     ∷ flagNumber (e .subject)
@@ -119,7 +117,7 @@ thereOver there n l = cond (sameLink (linkOf there n) l) there (thereNumber l)
 unfoldable pub linkOver : ℕ → ℕ → Link → ℕ
 linkOver there n l = cond (sameLink (linkOf there n) l) n (linkNumber l)
 
-unfoldable pub marksOver : List ℕ → Event Coordinate → List ℕ
+unfoldable pub marksOver : List ℕ → Event Point → List ℕ
 marksOver m e =
     over flagOf flagNumber (getD m 0 0) (e .left)
     ∷ over flagOf flagNumber (getD m 1 0) (e .subject)
@@ -136,27 +134,27 @@ marksOver m e =
     ∷ []
 
 -- what is read outside the pool: its own partner, so that it means the same under every numbering
-unfoldable pub blank : ℕ → Event Coordinate
-blank i = fresh (record { x = B.zero; y = B.zero }) false false 0 i
+unfoldable pub blank : ℕ → Event Point
+blank i = fresh (record { x = 0; y = 0 }) false false 0 i
 
 -- ---- reading and storing by number
 
-unfoldable pub rowAt : Pool → ℕ → Event Coordinate
+unfoldable pub rowAt : Pool → ℕ → Event Point
 rowAt p i =
     cond (ltb i (length (p .points)))
     (cond (ltb i (length (p .marks))) (eventOf (getD (p .points) i []) (getD (p .marks) i [])) (blank i))
     (blank i)
 
 -- a record's two rows, these marks being its own
-abbrev pub withRows : Pool → ℕ → Event Coordinate → List ℕ → Pool
+abbrev pub withRows : Pool → ℕ → Event Point → List ℕ → Pool
 withRows p i e m = record { points = set (p .points) i (pointOf e); marks = set (p .marks) i m }
 
-unfoldable pub enter : Pool → ℕ → Event Coordinate → Pool
+unfoldable pub enter : Pool → ℕ → Event Point → Pool
 enter p i e = withRows p i e (marksOf e)
 
-unfoldable pub store : Pool → ℕ → Event Coordinate → Pool
+unfoldable pub store : Pool → ℕ → Event Point → Pool
 store p i e = withRows p i e (marksOver (getD (p .marks) i []) e)
 
 -- the pool as a store of records
-unfoldable pub stored : Store Coordinate Pool
+unfoldable pub stored : Store Point Pool
 stored = record { size = size; rowAt = rowAt; enter = enter; store = store; blank = blank }

@@ -5,7 +5,7 @@ ghost use Rattle.events.specs.Event.{shown, fresh};
 pub mod points;
 pub mod pool;
 
-use numbers::Coordinate;
+use numbers::Point;
 
 pub enum EdgeType {
     Normal,
@@ -28,7 +28,7 @@ pub enum Link {
 
 // One end of an edge.
 pub struct Event {
-    pub point: Coordinate,
+    pub point: Point,
     pub left: bool,
     pub subject: bool,
     pub ring: u32,
@@ -45,7 +45,7 @@ pub struct Event {
 }
 
 // An end that nothing is known of yet.
-pub fn fresh_event(point: Coordinate, left: bool, subject: bool, ring: u32, partner: u32) -> Event
+pub fn fresh_event(point: Point, left: bool, subject: bool, ring: u32, partner: u32) -> Event
     ensures { λ r. ⌜ shown r ≡ fresh point left subject ring partner ⌝ }
 {
     Event {

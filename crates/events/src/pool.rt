@@ -13,7 +13,7 @@ use crate::Event;
 use crate::Link;
 use crate::ResultTransition;
 use crate::fresh_event;
-use numbers::Coordinate;
+use numbers::Point;
 
 // A flag as a number.
 pub fn number_of_flag(b: bool) -> u32
@@ -106,11 +106,11 @@ fn number_of_transition(t: ResultTransition) -> u32
     }
 }
 
-pub fn event_of(p: [f64; 2], m: [u32; 12]) -> Event
+pub fn event_of(p: [u64; 2], m: [u32; 12]) -> Event
     ensures { λ r. ⌜ shown r ≡ eventOf p m ⌝ }
 {
     Event {
-        point: Coordinate { x: p[0], y: p[1] },
+        point: Point { x: p[0], y: p[1] },
         left: m[0] == 1,
         subject: m[1] == 1,
         ring: m[2],
@@ -127,10 +127,10 @@ pub fn event_of(p: [f64; 2], m: [u32; 12]) -> Event
 fn blank_event(i: u32) -> Event
     ensures { λ r. ⌜ shown r ≡ blank i ⌝ }
 {
-    fresh_event(Coordinate { x: 0.0, y: 0.0 }, false, false, 0, i)
+    fresh_event(Point { x: 0, y: 0 }, false, false, 0, i)
 }
 
-pub fn read_event(points: &[[f64; 2]], marks: &[[u32; 12]], i: u32) -> Event
+pub fn read_event(points: &[[u64; 2]], marks: &[[u32; 12]], i: u32) -> Event
     ensures { λ r. ⌜ shown r ≡ rowAt (pool (now (points .entry)) (now (marks .entry))) i ⌝ }
 {
     let at = i as usize;
@@ -143,7 +143,7 @@ pub fn read_event(points: &[[f64; 2]], marks: &[[u32; 12]], i: u32) -> Event
 }
 
 // The same where only the first places are in use: what lies beyond them is outside the pool.
-pub fn read_used(points: &[[f64; 2]], marks: &[[u32; 12]], used: u32, i: u32) -> Event
+pub fn read_used(points: &[[u64; 2]], marks: &[[u32; 12]], used: u32, i: u32) -> Event
     ensures { λ r. ⌜ shown r ≡ look stored (pool (now (points .entry)) (now (marks .entry))) used i ⌝ }
 {
     if i < used {
@@ -152,7 +152,7 @@ pub fn read_used(points: &[[f64; 2]], marks: &[[u32; 12]], used: u32, i: u32) ->
     blank_event(i)
 }
 
-fn point_of(e: Event) -> [f64; 2]
+fn point_of(e: Event) -> [u64; 2]
     ensures { λ r. ⌜ r ≡ pointOf (shown e) ⌝ }
 {
     [e.point.x, e.point.y]
@@ -261,7 +261,7 @@ pub fn marks_over(m: [u32; 12], e: Event) -> [u32; 12]
     ]
 }
 
-fn put_point(points: &mut [[f64; 2]], at: usize, p: [f64; 2])
+fn put_point(points: &mut [[u64; 2]], at: usize, p: [u64; 2])
     ensures { λ _. ⌜ now (points .exit) ≡ set (now (points .entry)) at p ⌝ }
 {
     if at < points.len() {
@@ -286,7 +286,7 @@ fn put_marks_over(marks: &mut [[u32; 12]], at: usize, e: Event)
 }
 
 // A new record, written whole.
-pub fn enter_event(points: &mut [[f64; 2]], marks: &mut [[u32; 12]], i: u32, e: Event)
+pub fn enter_event(points: &mut [[u64; 2]], marks: &mut [[u32; 12]], i: u32, e: Event)
     ensures { λ _. ⌜ pool (now (points .exit)) (now (marks .exit)) ≡ enter (pool (now (points .entry)) (now (marks .entry))) i (shown e) ⌝ }
 {
     let at = i as usize;
@@ -295,7 +295,7 @@ pub fn enter_event(points: &mut [[f64; 2]], marks: &mut [[u32; 12]], i: u32, e: 
 }
 
 // A record that is there already: a mark that says what it should stays as lent.
-pub fn store_event(points: &mut [[f64; 2]], marks: &mut [[u32; 12]], i: u32, e: Event)
+pub fn store_event(points: &mut [[u64; 2]], marks: &mut [[u32; 12]], i: u32, e: Event)
     ensures { λ _. ⌜ pool (now (points .exit)) (now (marks .exit)) ≡ store (pool (now (points .entry)) (now (marks .entry))) i (shown e) ⌝ }
 {
     let at = i as usize;

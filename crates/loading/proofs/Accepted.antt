@@ -7,7 +7,6 @@ use native.Mathlib.Omega.{arith}
 use borrow.Author.Tests.{eqb-true, ltb-false, not-false}
 use lib.Dec.{eqb, ltb}
 use lib.ListN.{length}
-use lib.Ieee.{Float}
 use Rattle.refusals.specs.declared.Refusal.{Refusal}
 use Rattle.events.specs.Binary64.{atBinary64}
 use Rattle.events.specs.Pool.{Pool, stored}
@@ -28,14 +27,14 @@ pub unstruck : (t : Bool) (x : Refusal) (rest : Check) → cond t (Refused x) re
 unstruck true x rest e = absurd (not-both _ _ e refl)
 unstruck false x rest e = (refl, e)
 
-pub record Accepted (ends : List (List Float)) (labels : List (List ℕ)) (p : Pool) : Type 0 where
+pub record Accepted (ends : List (List ℕ)) (labels : List (List ℕ)) (p : Pool) : Type 0 where
   pub equal : length ends ≡ length labels
   pub few : length ends ≤ maxEdges
   pub sizes : Sized (length (p .points)) (length (p .marks))
   pub room : 2 * length ends ≤ length (p .points)
   pub each : checkedEdges atBinary64 0 (edgesOf ends labels) ≡ Passed
 
-pub accepted : (ends : List (List Float)) (labels : List (List ℕ)) (p : Pool) → accept ends labels p ≡ Passed → Accepted ends labels p
+pub accepted : (ends : List (List ℕ)) (labels : List (List ℕ)) (p : Pool) → accept ends labels p ≡ Passed → Accepted ends labels p
 unfolding accept edgesSized poolSized
 accepted ends labels p e =
     let n = length ends in
@@ -54,14 +53,14 @@ accepted ends labels p e =
     }
 
 -- as many as the ends lent
-pub as-many : (ends : List (List Float)) (labels : List (List ℕ)) (p : Pool) → Accepted ends labels p → length (edgesOf ends labels) ≡ length ends
+pub as-many : (ends : List (List ℕ)) (labels : List (List ℕ)) (p : Pool) → Accepted ends labels p → length (edgesOf ends labels) ≡ length ends
 as-many ends labels p a =
     let q = length-edges ends labels in
     omega (arith, a .equal)
 
 -- ---- the answer
 
-module _ (ends : List (List Float)) (labels : List (List ℕ)) (p : Pool) {t : Check} (told : t ≡ accept ends labels p) where
+module _ (ends : List (List ℕ)) (labels : List (List ℕ)) (p : Pool) {t : Check} (told : t ≡ accept ends labels p) where
   pub few-edges : t ≡ Passed → length (edgesOf ends labels) ≤ maxEdges
   few-edges e =
       let a = accepted ends labels p (rw (← told) e) in

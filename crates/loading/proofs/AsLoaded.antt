@@ -8,16 +8,14 @@ use native.Mathlib.Omega.{arith}
 use borrow.Author.Tests.{eqb-true, eqb-false, not-false}
 use lib.Dec.{eqb}
 use lib.ListN.{length}
-use lib.Ieee.{Float}
-use Rattle.numbers.specs.declared.Coordinate.{Coordinate}
 use Rattle.events.specs.declared.Link.the-variants.{None, To}
 use Rattle.events.specs.Coordinates.{Coordinates, same, ahead}
 use Rattle.events.specs.Event.{Event}
 use Rattle.events.specs.Binary64.{atBinary64}
 use Rattle.events.specs.Pool.{Pool, size, rowAt, stored, thereNumber}
 use Rattle.events.proofs.Stored.{pool-stored}
-use Rattle.order.proofs.Laws as Laws
-use Rattle.order.proofs.AtBinary64.{laws, fine}
+use Rattle.order.proofs.Laws.{ahead-apart}
+use Rattle.order.proofs.AtBinary64.{laws}
 use Rattle.checks.specs.declared.Check.{Check}
 use Rattle.checks.specs.declared.Check.the-variants.{Passed, Refused}
 use Rattle.checks.specs.Checks.{inOrder, checked}
@@ -66,7 +64,7 @@ fit C i e p =
     let ends = neither (not (C .fit (e .from))) (not (C .fit (e .to))) (two .0) in
     record { from = not-false _ (ends .0); to = not-false _ (ends .1); apart = three .0 }
 
--- ---- the records of a store that holds the edges, below n, for a kind of coordinate where exactly one of two fit points that differ is ahead
+-- ---- the records of a store that holds the edges, below n, for a kind of coordinate where exactly one of two points that differ is ahead
 
 module _ {P : Type 0} (C : Coordinates P) (row : ℕ → Event P) (n : ℕ) where
   -- two ends of an edge, each other's partners
@@ -83,10 +81,10 @@ module _ {P : Type 0} (C : Coordinates P) (row : ℕ → Event P) (n : ℕ) wher
         below = λ m g. absurd (not-linked m (rw u at g));
       }
 
-  module _ (apart : (p q : P) → C .fit p ≡ true → C .fit q ≡ true → same C p q ≡ false → ahead C p q ≡ not (ahead C q p)) where
+  module _ (apart : (p q : P) → same C p q ≡ false → ahead C p q ≡ not (ahead C q p)) where
     -- the left end is ahead, whichever it is
     ordered : (e : Edge P) → Fit C e → cond (ahead C (e .from) (e .to)) (ahead C (e .from) (e .to)) (ahead C (e .to) (e .from)) ≡ true
-    ordered e f = by (ahead C (e .from) (e .to)) (ahead C (e .to) (e .from)) (apart (e .from) (e .to) (f .from) (f .to) (f .apart))
+    ordered e f = by (ahead C (e .from) (e .to)) (ahead C (e .to) (e .from)) (apart (e .from) (e .to) (f .apart))
       where
         by : (t u : Bool) → t ≡ not u → cond t t u ≡ true
         by true u r = refl
@@ -112,11 +110,7 @@ module _ {P : Type 0} (C : Coordinates P) (row : ℕ → Event P) (n : ℕ) wher
 
 -- ---- the lent pool
 
-apart : (p q : Coordinate) → atBinary64 .fit p ≡ true → atBinary64 .fit q ≡ true → same atBinary64 p q ≡ false → ahead atBinary64 p q ≡ not (ahead atBinary64 q p)
-unfolding laws
-apart p q f g d = Laws.ahead-apart laws p q (fine p f) (fine q g) d
-
-module _ (ends : List (List Float)) (labels : List (List ℕ)) (p : Pool) where
+module _ (ends : List (List ℕ)) (labels : List (List ℕ)) (p : Pool) where
   edges-sound : accept ends labels p ≡ Passed → let n = 2 * length (edgesOf ends labels) in checked atBinary64 (rowAt (loaded atBinary64 stored p 0 (edgesOf ends labels))) n (numbersFrom 0 n) ≡ Passed
   unfolding stored size
   edges-sound e =
@@ -128,7 +122,7 @@ module _ (ends : List (List Float)) (labels : List (List ℕ)) (p : Pool) where
       passed-checked atBinary64 _ n (numbersFrom 0 n)
       (λ k h.
       let r = rw length-numbers at h in
-      rw (number-at 0 n k r) (sounds atBinary64 _ n apart held (a .each) (omega arith) (0 + k) (omega arith) (omega arith)))
+      rw (number-at 0 n k r) (sounds atBinary64 _ n (ahead-apart laws) held (a .each) (omega arith) (0 + k) (omega arith) (omega arith)))
 
   -- loading answered with the places in use: their records pass refusals 2 and 4
   pub as-loaded : (n : ℕ) → load ends labels p .answer ≡ Loaded.Done n → checked atBinary64 (rowAt (load ends labels p .pool)) n (numbersFrom 0 n) ≡ Passed

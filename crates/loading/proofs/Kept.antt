@@ -2,9 +2,8 @@
 use mathlib.Core.Path.{_≡_, refl, _∙_}
 use mathlib.Core.List.{List, [], _∷_}
 use Prim.Native.Nat.{ℕ, suc}
-use lib.Ieee.{Float}
 use lib.ListN.{length, length-set}
-use Rattle.numbers.specs.declared.Coordinate.{Coordinate}
+use Rattle.numbers.specs.declared.Point.{Point}
 use Rattle.events.specs.Coordinates.{Coordinates}
 use Rattle.events.specs.Event.{Event}
 use Rattle.events.specs.Store.{Store}
@@ -22,7 +21,7 @@ unfolding loaded loadedEdge
 kept-loaded C K f h s i [] = refl
 kept-loaded C K f h s i (e ∷ l) = kept-loaded C K f h (loadedEdge C K s i e) (suc i) l ∙ h _ _ _ ∙ h _ _ _
 
-module _ (p : Pool) (i : ℕ) (l : List (Edge Coordinate)) where
+module _ (p : Pool) (i : ℕ) (l : List (Edge Point)) where
   pub points-loaded : length (loaded atBinary64 stored p i l .points) ≡ length (p .points)
   unfolding stored enter
   points-loaded = kept-loaded atBinary64 stored (λ q. length (q .points)) (λ q i e. length-set (q .points) i (pointOf e)) p i l
@@ -32,7 +31,7 @@ module _ (p : Pool) (i : ℕ) (l : List (Edge Coordinate)) where
   marks-loaded = kept-loaded atBinary64 stored (λ q. length (q .marks)) (λ q i e. length-set (q .marks) i (marksOf e)) p i l
 
 -- refused or not
-module _ (ends : List (List Float)) (labels : List (List ℕ)) (p : Pool) where
+module _ (ends : List (List ℕ)) (labels : List (List ℕ)) (p : Pool) where
   pub points-kept : length (load ends labels p .pool .points) ≡ length (p .points)
   unfolding load afterChecks
   points-kept = go (accept ends labels p)

@@ -7,7 +7,7 @@ use native.Mathlib.Numerals.{add-one}
 use lib.ListN.{length, drop}
 use lib.Seq.{drop-length}
 use Rattle.refusals.specs.declared.Refusal.{Refusal}
-use Rattle.numbers.specs.declared.Coordinate.{Coordinate}
+use Rattle.numbers.specs.declared.Point.{Point}
 use Rattle.events.specs.Coordinates.{Coordinates, ahead}
 use Rattle.events.specs.Binary64.{atBinary64}
 use Rattle.events.specs.Event.{Event}
@@ -52,7 +52,7 @@ module _ {P : Type 0} (C : Coordinates P) (l : List (Edge P)) where
     load-ended e = rw (← left, e, drop-length l)
 
 -- ---- an edge's two records in the lent pool
-pub both-ends : (p q r : Pool) (i : ℕ) (e : Edge Coordinate) {left : Bool} {a b : Event Coordinate}
+pub both-ends : (p q r : Pool) (i : ℕ) (e : Edge Point) {left : Bool} {a b : Event Point}
     → left ≡ ahead atBinary64 (e .from) (e .to)
     → a ≡ end e (e .from) left (2 * i + 1)
     → q ≡ enter p (2 * i) a

@@ -16,7 +16,7 @@ use checks::sizes::POOL_PLACE;
 use checks::sizes::pool_refused;
 use events::points::is_unfit_point;
 use events::points::same_point;
-use numbers::Coordinate;
+use numbers::Point;
 use refusals::Refusal;
 
 // The most edges.
@@ -35,7 +35,7 @@ fn refused(number: u64, place: u64) -> Check
 }
 
 // Two arrays of one length, within the limit.
-fn check_sizes(ends: &[[f64; 4]], labels: &[[u32; 2]]) -> Check
+fn check_sizes(ends: &[[u64; 4]], labels: &[[u32; 2]]) -> Check
     ensures { λ r. ⌜ r ≡ edgesSized (length (now (ends .entry))) (length (now (labels .entry))) ⌝ }
 {
     if ends.len() != labels.len() {
@@ -48,7 +48,7 @@ fn check_sizes(ends: &[[f64; 4]], labels: &[[u32; 2]]) -> Check
 }
 
 // Two places for each edge.
-fn check_pool(ends: &[[f64; 4]], points: &[[f64; 2]], marks: &[[u32; 12]]) -> Check
+fn check_pool(ends: &[[u64; 4]], points: &[[u64; 2]], marks: &[[u32; 12]]) -> Check
     ensures { λ r. ⌜ r ≡ poolSized (length (now (points .entry))) (length (now (marks .entry))) (length (now (ends .entry))) ⌝ }
 {
     if pool_refused(points, marks) {
@@ -60,7 +60,7 @@ fn check_pool(ends: &[[f64; 4]], points: &[[f64; 2]], marks: &[[u32; 12]]) -> Ch
     Check::Passed
 }
 
-fn is_unfit_edge(from: Coordinate, to: Coordinate) -> bool
+fn is_unfit_edge(from: Point, to: Point) -> bool
     ensures { λ r. ⌜ r ≡ (not (atBinary64 .fit from) || not (atBinary64 .fit to)) ⌝ }
 {
     if is_unfit_point(from) {
@@ -84,7 +84,7 @@ fn check_edge(e: Edge, i: usize) -> Check
 }
 
 // Each edge in turn.
-fn check_edges(ends: &[[f64; 4]], labels: &[[u32; 2]]) -> Check
+fn check_edges(ends: &[[u64; 4]], labels: &[[u32; 2]]) -> Check
     ensures { λ r. ⌜ r ≡ checkedEdges atBinary64 0 (edgesOf (now (ends .entry)) (now (labels .entry))) ⌝ }
 {
     let n = edge_count(ends, labels);
@@ -104,9 +104,9 @@ fn check_edges(ends: &[[f64; 4]], labels: &[[u32; 2]]) -> Check
 }
 
 pub fn accept(
-    ends: &[[f64; 4]],
+    ends: &[[u64; 4]],
     labels: &[[u32; 2]],
-    points: &[[f64; 2]],
+    points: &[[u64; 2]],
     marks: &[[u32; 12]],
 ) -> Check
     ensures { λ r. ⌜ r ≡ OnPool.accept (now (ends .entry)) (now (labels .entry)) (pool (now (points .entry)) (now (marks .entry))) ⌝ }

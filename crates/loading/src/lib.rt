@@ -20,9 +20,9 @@ pub enum Loaded {
 
 // Loads the edges, x y x y each, with their labels: the ring, and 1 for the subject. The places beyond the two of each edge stay as lent.
 pub fn load(
-    ends: &[[f64; 4]],
+    ends: &[[u64; 4]],
     labels: &[[u32; 2]],
-    points: &mut [[f64; 2]],
+    points: &mut [[u64; 2]],
     marks: &mut [[u32; 12]],
 ) -> Loaded
     ensures { λ r. ⌜ after r (pool (now (points .exit)) (now (marks .exit))) ≡ OnPool.load (now (ends .entry)) (now (labels .entry)) (pool (now (points .entry)) (now (marks .entry))) ⌝ }

@@ -11,20 +11,20 @@ ghost use Rattle.loading.specs.OnPool.{maxEdges, edgesOf, shownEdge};
 use crate::edge::Edge;
 use crate::edge::edge_count;
 use crate::edge::read_edge;
-use checks::records::is_ahead;
 use events::Event;
 use events::fresh_event;
+use events::points::is_ahead;
 use events::pool::enter_event;
-use numbers::Coordinate;
+use numbers::Point;
 
 // An end of the edge.
-fn end(e: Edge, p: Coordinate, left: bool, partner: u32) -> Event
+fn end(e: Edge, p: Point, left: bool, partner: u32) -> Event
     ensures { λ r. ⌜ shown r ≡ Loading.end (shownEdge e) p left partner ⌝ }
 {
     fresh_event(p, left, e.subject, e.ring, partner)
 }
 
-fn load_edge(points: &mut [[f64; 2]], marks: &mut [[u32; 12]], i: u32, e: Edge)
+fn load_edge(points: &mut [[u64; 2]], marks: &mut [[u32; 12]], i: u32, e: Edge)
     requires { ⌜ i < maxEdges ⌝ }
     ensures { λ _. ⌜ pool (now (points .exit)) (now (marks .exit)) ≡ loadedEdge atBinary64 stored (pool (now (points .entry)) (now (marks .entry))) i (shownEdge e) ⌝ }
 {
@@ -39,9 +39,9 @@ fn load_edge(points: &mut [[f64; 2]], marks: &mut [[u32; 12]], i: u32, e: Edge)
 
 // All edges; the answer is how many places are in use.
 pub fn load_edges(
-    ends: &[[f64; 4]],
+    ends: &[[u64; 4]],
     labels: &[[u32; 2]],
-    points: &mut [[f64; 2]],
+    points: &mut [[u64; 2]],
     marks: &mut [[u32; 12]],
 ) -> u32
     requires { ⌜ length (edgesOf (now ends) (now labels)) ≤ maxEdges ⌝ }

@@ -3,7 +3,7 @@ ghost use mathlib.Core.Path.{_≡_};
 ghost use Rattle.events.specs.Binary64.{atBinary64, inMode};
 ghost use Rattle.events.specs.Pool.{pool, stored};
 ghost use Rattle.neighbours.specs.Neighbours.{meeting, meet};
-use crossing::intersection;
+use events::points::crossing;
 use events::points::same_point;
 use meeting::meet_by;
 use overlap::left_point;
@@ -28,7 +28,7 @@ pub struct Neighbours {
 
 // The segments of two left records, where the first `used` places of the pool are in use: codes 0 to 3 and their divisions as the source.
 pub fn possible_intersection(
-    points: &mut [[f64; 2]],
+    points: &mut [[u64; 2]],
     marks: &mut [[u32; 12]],
     used: u32,
     a: u32,
@@ -41,7 +41,7 @@ pub fn possible_intersection(
     let right_a = right_point(points, marks, used, a);
     let left_b = left_point(points, marks, used, b);
     let right_b = right_point(points, marks, used, b);
-    let found = intersection(mode, left_a, right_a, left_b, right_b);
+    let found = crossing(mode, left_a, right_a, left_b, right_b);
     meet_by(
         points,
         marks,

@@ -2,7 +2,7 @@
 ghost use mathlib.Core.Path.{_≡_};
 ghost use mathlib.Core.Bool.{cond};
 ghost use Rattle.events.specs.Coordinates.{point};
-ghost use Rattle.events.specs.Binary64.{atBinary64, crossOf};
+ghost use Rattle.events.specs.Binary64.{atBinary64, shownMeeting};
 ghost use Rattle.events.specs.Pool.{pool, stored};
 ghost use Rattle.neighbours.specs.Step.{step};
 ghost use Rattle.neighbours.specs.Neighbours as Spec;
@@ -17,17 +17,17 @@ use crate::step::Step;
 use crate::step::Stop;
 use crate::step::cut_unless;
 use crate::step::still;
-use crossing::LineIntersection;
+use events::points::Meeting;
 use events::points::same_point;
 use events::pool::read_used;
-use numbers::Coordinate;
+use numbers::Point;
 use order::before;
 use order::key_used;
 use refusals::CUT;
 use refusals::Refusal;
 
 // p is an end of the segment of record r.
-fn at_end(points: &[[f64; 2]], marks: &[[u32; 12]], used: u32, r: u32, p: Coordinate) -> bool
+fn at_end(points: &[[u64; 2]], marks: &[[u32; 12]], used: u32, r: u32, p: Point) -> bool
     ensures { λ x. ⌜ x ≡ Spec.atEnd atBinary64 stored (pool (now (points .entry)) (now (marks .entry))) used r p ⌝ }
 {
     if same_point(left_point(points, marks, used, r), p) {
@@ -38,12 +38,12 @@ fn at_end(points: &[[f64; 2]], marks: &[[u32; 12]], used: u32, r: u32, p: Coordi
 
 // Each segment is cut at p, unless it ends there.
 fn cross(
-    points: &mut [[f64; 2]],
+    points: &mut [[u64; 2]],
     marks: &mut [[u32; 12]],
     used: u32,
     a: u32,
     b: u32,
-    p: Coordinate,
+    p: Point,
 ) -> Step
     ensures { λ r. ⌜ step (pool (now (points .exit)) (now (marks .exit))) (r .used) (r .stop) ≡ Spec.crossed atBinary64 stored (pool (now (points .entry)) (now (marks .entry))) used a b p ⌝ }
 {
@@ -78,12 +78,12 @@ fn ended(last: Step, code: u32) -> Neighbours
 
 // The segments have a point in common: nothing is done where it is a shared end.
 fn meet_at(
-    points: &mut [[f64; 2]],
+    points: &mut [[u64; 2]],
     marks: &mut [[u32; 12]],
     used: u32,
     a: u32,
     b: u32,
-    p: Coordinate,
+    p: Point,
     one_left: bool,
     one_right: bool,
 ) -> Neighbours
@@ -105,7 +105,7 @@ fn pick(test: bool, a: u32, b: u32) -> u32
 }
 
 // The segment of a ends before that of b, in event order.
-fn ends_first(points: &[[f64; 2]], marks: &[[u32; 12]], used: u32, a: u32, b: u32) -> bool
+fn ends_first(points: &[[u64; 2]], marks: &[[u32; 12]], used: u32, a: u32, b: u32) -> bool
     ensures { λ r. ⌜ r ≡ Spec.endsFirst atBinary64 stored (pool (now (points .entry)) (now (marks .entry))) used a b ⌝ }
 {
     let right_a = read_used(points, marks, used, a).partner;
@@ -116,7 +116,7 @@ fn ends_first(points: &[[f64; 2]], marks: &[[u32; 12]], used: u32, a: u32, b: u3
     )
 }
 
-fn begins_first(points: &[[f64; 2]], marks: &[[u32; 12]], used: u32, a: u32, b: u32) -> bool
+fn begins_first(points: &[[u64; 2]], marks: &[[u32; 12]], used: u32, a: u32, b: u32) -> bool
     ensures { λ r. ⌜ r ≡ Spec.beginsFirst atBinary64 stored (pool (now (points .entry)) (now (marks .entry))) used a b ⌝ }
 {
     before(
@@ -125,7 +125,7 @@ fn begins_first(points: &[[f64; 2]], marks: &[[u32; 12]], used: u32, a: u32, b: 
     )
 }
 
-fn one_layer(points: &[[f64; 2]], marks: &[[u32; 12]], used: u32, a: u32, b: u32) -> bool
+fn one_layer(points: &[[u64; 2]], marks: &[[u32; 12]], used: u32, a: u32, b: u32) -> bool
     ensures { λ r. ⌜ r ≡ Spec.oneLayer atBinary64 stored (pool (now (points .entry)) (now (marks .entry))) used a b ⌝ }
 {
     read_used(points, marks, used, a).subject == read_used(points, marks, used, b).subject
@@ -133,7 +133,7 @@ fn one_layer(points: &[[f64; 2]], marks: &[[u32; 12]], used: u32, a: u32, b: u32
 
 // The segments of two layers overlap.
 fn overlap(
-    points: &mut [[f64; 2]],
+    points: &mut [[u64; 2]],
     marks: &mut [[u32; 12]],
     used: u32,
     a: u32,
@@ -157,28 +157,28 @@ fn overlap(
 
 // By what the segments have in common. Lost is refused at the first of the pair.
 pub fn meet_by(
-    points: &mut [[f64; 2]],
+    points: &mut [[u64; 2]],
     marks: &mut [[u32; 12]],
     used: u32,
     a: u32,
     b: u32,
-    found: LineIntersection,
+    found: Meeting,
     one_left: bool,
     one_right: bool,
 ) -> Neighbours
-    ensures { λ r. ⌜ meeting (pool (now (points .exit)) (now (marks .exit))) (r .used) (r .met) ≡ Spec.meetBy atBinary64 stored (crossOf found) (pool (now (points .entry)) (now (marks .entry))) used a b «one_left» «one_right» ⌝ }
+    ensures { λ r. ⌜ meeting (pool (now (points .exit)) (now (marks .exit))) (r .used) (r .met) ≡ Spec.meetBy atBinary64 stored (shownMeeting found) (pool (now (points .entry)) (now (marks .entry))) used a b «one_left» «one_right» ⌝ }
 {
     match found {
-        LineIntersection::None => ended(still(used), 0),
-        LineIntersection::Lost => Neighbours {
+        Meeting::Nothing => ended(still(used), 0),
+        Meeting::Lost => Neighbours {
             used: used,
             met: Met::Refused(Refusal {
                 number: CUT,
                 place: a as u64,
             }),
         },
-        LineIntersection::Point(p) => meet_at(points, marks, used, a, b, p, one_left, one_right),
-        LineIntersection::Overlap(_, _) => {
+        Meeting::At(p) => meet_at(points, marks, used, a, b, p, one_left, one_right),
+        Meeting::Along(_, _) => {
             if one_layer(points, marks, used, a, b) {
                 return ended(still(used), 0);
             }

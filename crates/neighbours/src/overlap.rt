@@ -16,10 +16,10 @@ use events::EdgeType;
 use events::Event;
 use events::pool::read_used;
 use events::pool::store_event;
-use numbers::Coordinate;
+use numbers::Point;
 
 // The left end's point of the segment of record r.
-pub fn left_point(points: &[[f64; 2]], marks: &[[u32; 12]], used: u32, r: u32) -> Coordinate
+pub fn left_point(points: &[[u64; 2]], marks: &[[u32; 12]], used: u32, r: u32) -> Point
     ensures { λ x. ⌜ x ≡ look stored (pool (now (points .entry)) (now (marks .entry))) used r .point ⌝ }
 {
     let e = read_used(points, marks, used, r);
@@ -27,7 +27,7 @@ pub fn left_point(points: &[[f64; 2]], marks: &[[u32; 12]], used: u32, r: u32) -
 }
 
 // The right end's point.
-pub fn right_point(points: &[[f64; 2]], marks: &[[u32; 12]], used: u32, r: u32) -> Coordinate
+pub fn right_point(points: &[[u64; 2]], marks: &[[u32; 12]], used: u32, r: u32) -> Point
     ensures { λ x. ⌜ x ≡ rightOf atBinary64 stored (pool (now (points .entry)) (now (marks .entry))) used r .point ⌝ }
 {
     let e = read_used(points, marks, used, r);
@@ -68,7 +68,7 @@ fn type_by(first: Event, second: Event) -> EdgeType
 }
 
 // Of two segments with one left end the second does not count, and the first tells how the layers change across both.
-fn coincide(points: &mut [[f64; 2]], marks: &mut [[u32; 12]], used: u32, a: u32, b: u32)
+fn coincide(points: &mut [[u64; 2]], marks: &mut [[u32; 12]], used: u32, a: u32, b: u32)
     ensures { λ _. ⌜ pool (now (points .exit)) (now (marks .exit)) ≡ Spec.coincided atBinary64 stored (pool (now (points .entry)) (now (marks .entry))) used a b ⌝ }
 {
     let first = read_used(points, marks, used, a);
@@ -85,7 +85,7 @@ fn coincide(points: &mut [[f64; 2]], marks: &mut [[u32; 12]], used: u32, a: u32,
 
 // One left end: h ends first, and k, where it ends later, is cut there.
 pub fn left_shared(
-    points: &mut [[f64; 2]],
+    points: &mut [[u64; 2]],
     marks: &mut [[u32; 12]],
     used: u32,
     a: u32,
@@ -103,7 +103,7 @@ pub fn left_shared(
 
 // i begins first, h ends first: i is cut where j begins, and then what lies over the end of h.
 pub fn lay(
-    points: &mut [[f64; 2]],
+    points: &mut [[u64; 2]],
     marks: &mut [[u32; 12]],
     used: u32,
     one_right: bool,

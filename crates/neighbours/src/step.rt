@@ -7,7 +7,7 @@ ghost use Rattle.neighbours.specs.Step as Spec;
 ghost use Rattle.neighbours.specs.Step.{step};
 use division::Division;
 use division::divide_segment;
-use numbers::Coordinate;
+use numbers::Point;
 use refusals::Refusal;
 
 pub enum Stop {
@@ -31,13 +31,7 @@ pub fn still(used: u32) -> Step
 }
 
 // The segment of record i is cut at p.
-pub fn cut(
-    points: &mut [[f64; 2]],
-    marks: &mut [[u32; 12]],
-    used: u32,
-    i: u32,
-    p: Coordinate,
-) -> Step
+pub fn cut(points: &mut [[u64; 2]], marks: &mut [[u32; 12]], used: u32, i: u32, p: Point) -> Step
     ensures { λ r. ⌜ step (pool (now (points .exit)) (now (marks .exit))) (r .used) (r .stop) ≡ Spec.cut atBinary64 stored (pool (now (points .entry)) (now (marks .entry))) used i p ⌝ }
 {
     match divide_segment(points, marks, used, i, p) {
@@ -54,12 +48,12 @@ pub fn cut(
 
 // The same, where the segment is to be cut at all.
 pub fn cut_unless(
-    points: &mut [[f64; 2]],
+    points: &mut [[u64; 2]],
     marks: &mut [[u32; 12]],
     used: u32,
     not_to_be: bool,
     i: u32,
-    p: Coordinate,
+    p: Point,
 ) -> Step
     ensures { λ r. ⌜ step (pool (now (points .exit)) (now (marks .exit))) (r .used) (r .stop) ≡ Spec.cutUnless atBinary64 stored «not_to_be» (pool (now (points .entry)) (now (marks .entry))) used i p ⌝ }
 {
@@ -71,13 +65,13 @@ pub fn cut_unless(
 
 // One cut, and then another.
 pub fn twice(
-    points: &mut [[f64; 2]],
+    points: &mut [[u64; 2]],
     marks: &mut [[u32; 12]],
     used: u32,
     i: u32,
-    p: Coordinate,
+    p: Point,
     j: u32,
-    q: Coordinate,
+    q: Point,
 ) -> Step
     ensures { λ r. ⌜ step (pool (now (points .exit)) (now (marks .exit))) (r .used) (r .stop) ≡ Spec.twice atBinary64 stored (pool (now (points .entry)) (now (marks .entry))) used i p j q ⌝ }
 {
@@ -91,12 +85,12 @@ pub fn twice(
 
 // One cut, and then another of the new left end that it made.
 pub fn cut_on(
-    points: &mut [[f64; 2]],
+    points: &mut [[u64; 2]],
     marks: &mut [[u32; 12]],
     used: u32,
     i: u32,
-    p: Coordinate,
-    q: Coordinate,
+    p: Point,
+    q: Point,
 ) -> Step
     ensures { λ r. ⌜ step (pool (now (points .exit)) (now (marks .exit))) (r .used) (r .stop) ≡ Spec.twice atBinary64 stored (pool (now (points .entry)) (now (marks .entry))) used i p (used + 1) q ⌝ }
 {

@@ -5,38 +5,37 @@ use Prim.Native.Nat.{ℕ, _+_, _<_, _≤_}
 use native.Mathlib.Numerals.{add-one}
 use native.Mathlib.Omega.{arith}
 use borrow.Author.Tests.{lt-ltb}
-use lib.Ieee.{Float}
 use lib.ListN.{length, getD, set, length-set}
 use lib.Seq.{set-getD}
 use Rattle.events.specs.declared.Link.{Link}
-use Rattle.numbers.specs.declared.Coordinate.{Coordinate}
+use Rattle.numbers.specs.declared.Point.{Point}
 use Rattle.events.specs.Event.{Event}
 use Rattle.events.specs.Pool.{pool, size, eventOf, pointOf, marksOver, rowAt, store, stored}
 use Rattle.contours.specs.Connect.{withContour, settle, settled}
 use Rattle.numbering.specs.Numbering.{numberAt, marksWith, Renumbered, settledBy}
 
 -- two numbers make a point, and the point makes them
-pub stored-point : (q : List Float) (m : List ℕ) → length q ≡ 2 → pointOf (eventOf q m) ≡ q
+pub stored-point : (q : List ℕ) (m : List ℕ) → length q ≡ 2 → pointOf (eventOf q m) ≡ q
 unfolding pointOf eventOf
 stored-point [] m h = absurd (omega arith)
 stored-point (x ∷ []) m h = absurd (omega arith)
 stored-point (x ∷ y ∷ []) m h = refl
 stored-point (x ∷ y ∷ z ∷ q) m h = absurd (omega arith)
 
-one-settled : (points : List (List Float)) (marks : List (List ℕ)) (r : ℕ) (l : Link) (written : List ℕ) → r < length points → r < length marks
+one-settled : (points : List (List ℕ)) (marks : List (List ℕ)) (r : ℕ) (l : Link) (written : List ℕ) → r < length points → r < length marks
     → Renumbered (getD points r []) (getD marks r []) l written → pool points (set marks r written) ≡ settle stored (pool points marks) r l
 unfolding settle stored rowAt store marksWith withContour pointOf
 one-settled points marks r l written h k n =
     rw (n .marks, lt-ltb r (length points) h, lt-ltb r (length marks) k)
-    (ap (λ (ps : List (List Float)). pool ps (set marks r (marksOver (getD marks r []) (withContour l e)))) same-points)
+    (ap (λ (ps : List (List ℕ)). pool ps (set marks r (marksOver (getD marks r []) (withContour l e)))) same-points)
   where
-    e : Event Coordinate
+    e : Event Point
     e = eventOf (getD points r []) (getD marks r [])
 
     same-points : points ≡ set points r (pointOf e)
     same-points = rw (n .point) (sym (set-getD points r []))
 
-module _ (places walked : List ℕ) (points : List (List Float)) (marks₀ : List (List ℕ)) where
+module _ (places walked : List ℕ) (points : List (List ℕ)) (marks₀ : List (List ℕ)) where
   pub record Settling (r : ℕ) (marks : List (List ℕ)) : Type 0 where
     pub done : pool points marks ≡ settled stored (numberAt places walked) r (pool points marks₀)
     pub most : r ≤ size (pool points marks₀)

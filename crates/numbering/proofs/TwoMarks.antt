@@ -1,12 +1,11 @@
 -- A record with another contour number says the same in all its other marks, so that only the contour's two are written.
-use mathlib.Core.Path.{_≡_, refl, sym, _∙_}
+use mathlib.Core.Path.{_≡_, refl, sym, ap, ap₂, _∙_}
 use mathlib.Core.Bool.{false, true≢false}
 use mathlib.Core.List.{List, [], _∷_}
 use Prim.Native.Nat.{ℕ, _<_}
 use native.Mathlib.Omega.{arith}
-use lib.Ieee.{Float}
 use lib.ListN.{length, getD, set, length-set}
-use lib.Seq.{getD-set-same, getD-set-other, ext-getD}
+use lib.Seq.{getD-set-same, getD-set-other, set-getD, ext-getD}
 use Rattle.events.specs.declared.Link.{Link}
 use Rattle.events.specs.Event.{Event}
 use Rattle.events.specs.Lent.{among}
@@ -19,7 +18,7 @@ pub contour-alone : {P : Type 0} (e : Event P) (l : Link) (k : ℕ) → k < 12 �
 unfolding withContour
 contour-alone e l = twelve (λ k. among k (10 ∷ 11 ∷ []) ≡ false → Agree e (withContour l e) k) (λ h. left refl) (λ h. subject refl) (λ h. ring refl) (λ h. partner refl) (λ h. there refl) (λ h. below refl) (λ h. edgeType refl) (λ h. transition refl) (λ h. inOut refl) (λ h. otherInOut refl) (λ h. absurd (true≢false h)) (λ h. absurd (true≢false h))
 
-module _ (q : List Float) (m : List ℕ) (l : Link) (size : length m ≡ 12) where
+module _ (q : List ℕ) (m : List ℕ) (l : Link) (size : length m ≡ 12) where
   abbrev there′ : ℕ
   there′ = thereOver (getD m 10 0) (getD m 11 0) l
 
@@ -55,3 +54,7 @@ module _ (q : List Float) (m : List ℕ) (l : Link) (size : length m ≡ 12) whe
   two-marks =
       ext-getD 0 written (marksWith q m l) size-with
       (λ k h. twelve At (beside 0 (omega arith) refl) (beside 1 (omega arith) refl) (beside 2 (omega arith) refl) (beside 3 (omega arith) refl) (beside 4 (omega arith) refl) (beside 5 (omega arith) refl) (beside 6 (omega arith) refl) (beside 7 (omega arith) refl) (beside 8 (omega arith) refl) (beside 9 (omega arith) refl) tenth eleventh k (omega (arith, length-set (set m 10 there′) 11 number′, length-set m 10 there′)))
+
+  -- nothing is written where both say it already
+  pub stays : there′ ≡ getD m 10 0 → number′ ≡ getD m 11 0 → m ≡ marksWith q m l
+  stays h k = sym (ap₂ (λ (t : ℕ) (n : ℕ). set (set m 10 t) 11 n) h k ∙ ap (λ (s : List ℕ). set s 11 (getD m 11 0)) (set-getD m 10 0) ∙ set-getD m 11 0) ∙ two-marks

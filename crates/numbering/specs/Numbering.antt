@@ -2,7 +2,6 @@
 use mathlib.Core.Path.{_≡_}
 use mathlib.Core.List.{List}
 use Prim.Native.Nat.{ℕ}
-use lib.Ieee.{Float}
 use lib.ListN.{length, getD}
 use Rattle.events.specs.declared.Link.{Link}
 use Rattle.events.specs.Pool.{Pool, size, eventOf, pointOf, marksOver, stored}
@@ -18,10 +17,10 @@ settledBy places walked p = settled stored (numberAt places walked) (size p) p
 
 -- ---- one record, in its two rows
 
-unfoldable pub marksWith : List Float → List ℕ → Link → List ℕ
+unfoldable pub marksWith : List ℕ → List ℕ → Link → List ℕ
 marksWith q m l = marksOver m (withContour l (eventOf q m))
 
-pub record Renumbered (q : List Float) (m : List ℕ) (l : Link) (written : List ℕ) : Type 0 where
+pub record Renumbered (q : List ℕ) (m : List ℕ) (l : Link) (written : List ℕ) : Type 0 where
   pub marks : written ≡ marksWith q m l
   -- the point would be stored as it stands
   pub point : pointOf (eventOf q m) ≡ q

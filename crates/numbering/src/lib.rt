@@ -40,11 +40,17 @@ fn contour_at(places: &[u32], walked: &[u32], r: usize) -> Link
 }
 
 // The marks of a record with its contour number: only the contour's two are written, and not where they say it already.
-fn renumbered(p: [f64; 2], m: [u32; 12], contour: Link) -> [u32; 12]
+fn renumbered(p: [u64; 2], m: [u32; 12], contour: Link) -> [u32; 12]
     ensures { λ r. ⌜ Renumbered p m contour r ⌝ }
 {
     let there = there_over(m[10], m[11], contour);
     let number = link_over(m[10], m[11], contour);
+    // most records keep their number, and are then not written at all
+    if there == m[10] {
+        if number == m[11] {
+            return m;
+        }
+    }
     let mut r = m;
     r[10] = there;
     r[11] = number;
@@ -52,7 +58,7 @@ fn renumbered(p: [f64; 2], m: [u32; 12], contour: Link) -> [u32; 12]
 }
 
 // The records that both arrays hold.
-fn pool_size(points: &[[f64; 2]], marks: &[[u32; 12]]) -> usize
+fn pool_size(points: &[[u64; 2]], marks: &[[u32; 12]]) -> usize
     ensures { λ n. ⌜ (n ≡ size (pool (now (points .entry)) (now (marks .entry)))) × (n ≤ length (now (points .entry))) × (n ≤ length (now (marks .entry))) ⌝ }
 {
     if points.len() < marks.len() {
@@ -62,7 +68,7 @@ fn pool_size(points: &[[f64; 2]], marks: &[[u32; 12]]) -> usize
 }
 
 // Each record of the pool gets the contour number of its place among the walked: `places` tells the place, `walked` holds the marks.
-pub fn settle(points: &[[f64; 2]], marks: &mut [[u32; 12]], places: &[u32], walked: &[u32])
+pub fn settle(points: &[[u64; 2]], marks: &mut [[u32; 12]], places: &[u32], walked: &[u32])
     ensures { λ _. ⌜ pool (now (points .entry)) (now (marks .exit)) ≡ settledBy (now (places .entry)) (now (walked .entry)) (pool (now (points .entry)) (now (marks .entry))) ⌝ }
 {
     let n = pool_size(points, marks);

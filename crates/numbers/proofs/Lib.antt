@@ -4,8 +4,9 @@ pub mod First
 pub mod Units
 pub mod Place
 pub mod OneWay
-pub mod Rising
 pub mod Patterns
+pub mod Values
+pub mod Limit
 pub mod Next
 pub mod Equal
 pub mod NextSame

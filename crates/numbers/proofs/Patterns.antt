@@ -120,7 +120,7 @@ full-field s t f e = rw e (go (eqb t 0))
     go true = refl
     go false = refl
 
-above-finite : (n : ℕ) → infinite ≤ n % 2 ^ 63 → notFinite (ofBits binary64 n) ≡ true
+pub above-finite : (n : ℕ) → infinite ≤ n % 2 ^ 63 → notFinite (ofBits binary64 n) ≡ true
 unfolding ofBits
 above-finite n h = full-field (leb (2 ^ 63) n) (n % 2 ^ 52) (n % 2 ^ 63 / 2 ^ 52) (omega arith)
 

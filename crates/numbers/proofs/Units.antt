@@ -1,6 +1,6 @@
 -- A finite number is exactly `size` units of 2^-1074, because its lowest digit is not below one unit; and of units there are fewer than 2^2098.
 use mathlib.Core.Path.{_≡_, refl, sym, ap, _∙_, subst}
-use mathlib.Core.Bool.{Bool, true, false, not, _&&_, cond, true≢false}
+use mathlib.Core.Bool.{Bool, true, false, _&&_, true≢false}
 use Prim.Native.Nat.{ℕ, zero, suc, _+_, _-_, _*_, _/_, _%_, _^_, _≤_, _<_}
 use native.Mathlib.Nat.{lt-of-not-le, not-le-of-lt, mul-one, div-one, mul-assoc, mul-right-comm, mul-pos, zero-mul, mul-div-cancel, lt-of-mul-lt-mul-right, mul-lt-mul-of-pos-right}
 use native.Mathlib.Omega.{arith}
@@ -10,23 +10,16 @@ use lib.IntN.{ℤ, pos, negsuc}
 use lib.Ieee.{Float, nan, inf, fin, binary64, up, down, fits, lt, le, eq, neg, ofBits}
 use lib.Ieee.Fits.{down-pos, and-l, and-r}
 use lib.Ieee.Exact.{HasValue}
-use Rattle.numbers.specs.Binary64.{Finite, notFinite, unfit, limit}
+use Rattle.numbers.specs.Binary64.{Finite, Held, notFinite, unfit}
 use Rattle.numbers.specs.Exact.{size, negative}
 
 -- what refusal 2 passes is finite
-abbrev within : Float → Bool
-within x = cond (le (neg limit) x) (not (le x limit)) true
-
-pub fit-finite : (x : Float) → unfit x ≡ false → Finite x
+pub fit-finite : (x : Float) → Held x → unfit x ≡ false → Finite x
 unfolding unfit notFinite fits lt le eq neg ofBits
-fit-finite nan u = absurd (true≢false u)
-fit-finite (inf true) u = absurd (true≢false u)
-fit-finite (inf false) u = absurd (true≢false u)
-fit-finite (fin s m e) u = go (fits binary64 (fin s m e)) refl u
-  where
-    go : (t : Bool) → fits binary64 (fin s m e) ≡ t → cond t (within (fin s m e)) true ≡ false → Finite (fin s m e)
-    go true h u = record { held = rw h tt; finite = refl }
-    go false h u = absurd (true≢false u)
+fit-finite nan h u = absurd (true≢false u)
+fit-finite (inf true) h u = absurd (true≢false u)
+fit-finite (inf false) h u = absurd (true≢false u)
+fit-finite (fin s m e) h u = record { held = h; finite = refl }
 
 -- ---- the size in units is exact
 whole-part : (n q d : ℕ) → 0 < d → n ≡ q * d → n ≡ n / d * d

@@ -44,9 +44,9 @@ huge = ofBits binary64 0x7fe0_0000_0000_0000
 abbrev pub limit : Float
 limit = ofBits binary64 0x4630_0000_0000_0000
 
--- not finite, or above 2^100 in size: a not-a-number compares with nothing. `Float` also has numbers that no binary64 holds; they are unfit too.
+-- not finite, or above 2^100 in size: a not-a-number compares with nothing
 unfoldable pub unfit : Float → Bool
-unfit x = cond (fits binary64 x) (cond (le (neg limit) x) (not (le x limit)) true) true
+unfit x = cond (le (neg limit) x) (not (le x limit)) true
 
 -- With one not-a-number the other is taken, of equals the first named. Only a not-a-number differs from itself.
 abbrev pub minimum : Float → Float → Float

@@ -1,12 +1,13 @@
 // Binary64 numbers and the plain structs of them (`helper.rs`).
 ghost use mathlib.Core.Path.{_≡_};
-ghost use Rattle.numbers.specs.Binary64.{unsigned as unsignedOf, notFinite, firstNotFinite, unfit, minimum, maximum};
+ghost use Rattle.numbers.specs.Binary64.{unsigned as unsignedOf, notFinite, firstNotFinite, minimum, maximum};
 ghost use Rattle.numbers.specs.Next.{nextPattern, nextUp};
 
 // 2^1023: a number that lies between its negative and it is finite.
 pub const HUGE: f64 = 8.98846567431158e307;
 
 pub mod points;
+pub mod words;
 
 // The pattern of minus zero.
 const MINUS_ZERO: u64 = 0x8000_0000_0000_0000;
@@ -14,6 +15,12 @@ const MINUS_ZERO: u64 = 0x8000_0000_0000_0000;
 pub struct Coordinate {
     pub x: f64,
     pub y: f64,
+}
+
+// A point of two words: of binary64 each is the pattern of a number (`words`).
+pub struct Point {
+    pub x: u64,
+    pub y: u64,
 }
 
 pub struct BoundingBox {
@@ -53,16 +60,6 @@ pub fn first_not_finite(numbers: &[f64]) -> usize
         i += 1;
     }
     i
-}
-
-// Not finite, or above 2^100 in size: what loading and the pool refuse.
-pub fn is_unfit(x: f64) -> bool
-    ensures { λ r. ⌜ r ≡ unfit x ⌝ }
-{
-    if -1267650600228229401496703205376.0 <= x {
-        return !(x <= 1267650600228229401496703205376.0);
-    }
-    true
 }
 
 pub fn min(a: f64, b: f64) -> f64

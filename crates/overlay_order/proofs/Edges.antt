@@ -4,7 +4,7 @@ use mathlib.Core.List.{List, [], _∷_, _++_, map, List·Permᴰ, List·Permᴰ�
 use Prim.Native.Nat.{ℕ}
 use native.Mathlib.Omega.{arith}
 use lib.ListN.{length, length-append}
-use Rattle.numbers.specs.declared.Coordinate.{Coordinate}
+use Rattle.numbers.specs.declared.Point.{Point}
 use Rattle.loading.specs.Loading as L
 use Rattle.loading.specs.OnPool.{edgeOf, edgesOf}
 use Rattle.contours.proofs.Lists.{length-perm}
@@ -39,18 +39,18 @@ behind (a ∷ k) p = List·Permᴰ·cons refl (behind k p)
 
 -- ---- the edges of a sheet
 
-abbrev edgeIn : ℕ → Edge → L.Edge Coordinate
+abbrev edgeIn : ℕ → Edge → L.Edge Point
 edgeIn k e = edgeOf (endsOf e) (labelsOf k e)
 
 clip-edges : (l : List Edge) → edgesOf (map endsOf l) (map (labelsOf 0) l) ≡ map (edgeIn 0) l
 unfolding edgesOf
 clip-edges [] = refl
-clip-edges (e ∷ l) = ap (λ (x : List (L.Edge Coordinate)). edgeIn 0 e ∷ x) (clip-edges l)
+clip-edges (e ∷ l) = ap (λ (x : List (L.Edge Point)). edgeIn 0 e ∷ x) (clip-edges l)
 
 sheet-edges : (a b : List Edge) → edgesOf (map endsOf a ++ map endsOf b) (map (labelsOf 1) a ++ map (labelsOf 0) b) ≡ map (edgeIn 1) a ++ map (edgeIn 0) b
 unfolding edgesOf
 sheet-edges [] b = clip-edges b
-sheet-edges (e ∷ a) b = ap (λ (x : List (L.Edge Coordinate)). edgeIn 1 e ∷ x) (sheet-edges a b)
+sheet-edges (e ∷ a) b = ap (λ (x : List (L.Edge Point)). edgeIn 1 e ∷ x) (sheet-edges a b)
 
 both-long : {A B : Type 0} (f g : A → B) {a b a′ b′ : List A} → List·Permᴰ a a′ → List·Permᴰ b b′ → length (map f a′ ++ map g b′) ≡ length (map f a ++ map g b)
 both-long f g {a} {b} {a′} {b′} p q =

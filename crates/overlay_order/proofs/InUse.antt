@@ -8,7 +8,7 @@ use borrow.Author.Tests.{lt-ltb}
 use lib.Dec.{ltb}
 use lib.ListN.{length}
 use lib.Seq.{length-take-le, getD-take}
-use Rattle.numbers.specs.declared.Coordinate.{Coordinate}
+use Rattle.numbers.specs.declared.Point.{Point}
 use Rattle.events.specs.Event.{Event}
 use Rattle.events.specs.Renaming.{rename}
 use Rattle.events.specs.Pool.{Pool, size, rowAt}
@@ -64,9 +64,9 @@ module _ (n : ℕ) (ρ : Renaming n) where
 
     -- ---- the two pools
 
-    own-contour : (x y : Event Coordinate) → x ≡ y → x ≡ withContour (x .contour) y
+    own-contour : (x y : Event Point) → x ≡ y → x ≡ withContour (x .contour) y
     unfolding withContour
-    own-contour x y e = ap (λ (z : Event Coordinate). withContour (x .contour) z) e
+    own-contour x y e = ap (λ (z : Event Point). withContour (x .contour) z) e
 
     pub renumbered : (q q′ : Pool) → u ≤ length (q .points) → u ≤ length (q .marks) → u ≤ length (q′ .points) → u ≤ length (q′ .marks)
         → ((r : ℕ) → r < u → rowAt q′ (ρ .to r) ≡ rename (ρ .to) (rowAt q r)) → RenumberedPool (ρ .to) (firstPlaces u q) (firstPlaces u q′)

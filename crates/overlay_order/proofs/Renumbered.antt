@@ -5,7 +5,7 @@ use mathlib.Core.List.{List, map}
 use Prim.Native.Nat.{ℕ}
 use lib.ListN.{length}
 use Rattle.refusals.specs.declared.Refusal.{Refusal}
-use Rattle.numbers.specs.declared.Coordinate.{Coordinate}
+use Rattle.numbers.specs.declared.Point.{Point}
 use Rattle.events.specs.Coordinates.{Coordinates, same}
 use Rattle.events.specs.Event.{Event}
 use Rattle.events.specs.Binary64.{atBinary64}
@@ -65,14 +65,14 @@ module _ {P : Type 0} (C : Coordinates P) (ρ : ℕ → ℕ) (n : ℕ) (row row�
 -- ---- the call
 
 module _ (ρ : ℕ → ℕ) (p p′ : Pool) (rn : RenumberedPool ρ p p′) (list : List ℕ) (l : Lent) where
-  abbrev text : List (Outline Coordinate) → List ℕ
+  abbrev text : List (Outline Point) → List ℕ
   text os = printedArrays (written os l .corners) (written os l .contours) (written os l .holes) (length os)
 
-  text-alike : (f g : Finished Coordinate Pool) → g .outlines ≡ f .outlines → SameWork (afterConnection (after (connected f) p l)) (afterConnection (after (connected g) p′ l))
+  text-alike : (f g : Finished Point Pool) → g .outlines ≡ f .outlines → SameWork (afterConnection (after (connected f) p l)) (afterConnection (after (connected g) p′ l))
   unfolding afterConnection connectedTo after told
-  text-alike f g e = subst (λ (os : List (Outline Coordinate)). SameWork (Text (text (f .outlines))) (Text (text os))) (sym e) same-text
+  text-alike f g e = subst (λ (os : List (Outline Point)). SameWork (Text (text (f .outlines))) (Text (text os))) (sym e) same-text
 
-  stopped-alike : (x y : Refusal) (f g : Finished Coordinate Pool) → y .number ≡ x .number → SameWork (afterConnection (after (stopped x f) p l)) (afterConnection (after (stopped y g) p′ l))
+  stopped-alike : (x y : Refusal) (f g : Finished Point Pool) → y .number ≡ x .number → SameWork (afterConnection (after (stopped x f) p l)) (afterConnection (after (stopped y g) p′ l))
   unfolding afterConnection connectedTo after told
   stopped-alike x y f g e = same-number e
 
@@ -86,11 +86,11 @@ module _ (ρ : ℕ → ℕ) (p p′ : Pool) (rn : RenumberedPool ρ p p′) (lis
 
     traces : traced atBinary64 stored p′ (map ρ list) ≡ traced atBinary64 stored p list
     unfolding traced stored
-    traces = ap (λ (t : List (Row Coordinate)). trace (same atBinary64) (length t) (T.rowAt (stored .blank 0 .point) t)) tables
+    traces = ap (λ (t : List (Row Point)). trace (same atBinary64) (length t) (T.rowAt (stored .blank 0 .point) t)) tables
 
     same-outlines : (ms : List ℕ) (cs : List Contour) → finished atBinary64 stored p′ (map ρ list) ms cs .outlines ≡ finished atBinary64 stored p list ms cs .outlines
     unfolding finished stored
-    same-outlines ms cs = ap (λ (t : List (Row Coordinate)). outlines (same atBinary64) (length t) (T.rowAt (stored .blank 0 .point) t) cs) tables
+    same-outlines ms cs = ap (λ (t : List (Row Point)). outlines (same atBinary64) (length t) (T.rowAt (stored .blank 0 .point) t) cs) tables
 
     alike-of : (t : Answer) → SameWork (afterConnection (after (outcomeOf atBinary64 stored p list t) p l)) (afterConnection (after (outcomeOf atBinary64 stored p′ (map ρ list) t) p′ l))
     unfolding outcomeOf

@@ -4,7 +4,6 @@ use mathlib.Core.Bool.{false}
 use mathlib.Core.List.{List, map}
 use Prim.Native.Nat.{ℕ, _≤_}
 use native.Mathlib.Omega.{arith}
-use lib.Ieee.{Float}
 use lib.ListN.{length, take, length-map}
 use lib.Seq.{length-sets}
 use Rattle.lists.proofs.Fronts.{first-are}
@@ -128,7 +127,7 @@ all-long : (length (start .points) ≡ 1024) × (length none ≡ 1024)
 unfolding noPoints noneTaken
 all-long = (refl, refl)
 
-module _ (op : Operation) (ends : List (List Float)) (labels : List (List ℕ)) (ends′ : List (List Float)) (labels′ : List (List ℕ)) (o : Reordered ends labels ends′ labels′)
+module _ (op : Operation) (ends : List (List ℕ)) (labels : List (List ℕ)) (ends′ : List (List ℕ)) (labels′ : List (List ℕ)) (o : Reordered ends labels ends′ labels′)
     (n : ℕ) (d : load ends labels start .answer ≡ Loading.Done n) (u : subdividePool op ordered (load ends labels start .pool) n none .answer .tied ≡ false) where
   free : OrderFreeCalls op ordered n ends labels start none ends′ labels′ start none
   free =

@@ -2,13 +2,12 @@
 use mathlib.Core.Path.{_≡_}
 use Prim.Native.Nat.{ℕ}
 use lib.ListN.{length, replicate, length-replicate}
-use Rattle.numbers.specs.Binary64 as B
 use Rattle.overlay_work.specs.Overlay.{noPoints, noMarks, noneTaken, noContours, noHoles}
 
 module _ (n : ℕ) where
   pub points-room : length (noPoints n) ≡ n
   unfolding noPoints
-  points-room = length-replicate n (replicate 2 B.zero)
+  points-room = length-replicate n (replicate 2 0)
 
   pub marks-room : length (noMarks n) ≡ n
   unfolding noMarks

@@ -7,7 +7,6 @@ use native.Mathlib.Nat.{zero-add}
 use native.Mathlib.Omega.{arith}
 use borrow.Author.Tests.{lt-ltb, le-ltb}
 use lib.Dec.{ltb}
-use lib.Ieee.{Float}
 use lib.ListN.{length, take, length-take}
 use lib.Seq.{sets}
 use Rattle.refusals.specs.declared.Refusal.{Refusal}
@@ -167,20 +166,20 @@ module _ (out : List ℕ) (o : Operation) (taken : List ℕ) (a : Loaded) (p : P
 
 -- ---- the arrays at the start
 
-pub in-places : (n k : ℕ) (out : List ℕ) (p : Pool) (list : List ℕ) (cs : List (List Float)) (ks : List (List ℕ)) (hs : List ℕ) (y : After) → cs ≡ noPoints n → ks ≡ noContours k → hs ≡ noHoles k
+pub in-places : (n k : ℕ) (out : List ℕ) (p : Pool) (list : List ℕ) (cs : List (List ℕ)) (ks : List (List ℕ)) (hs : List ℕ) (y : After) → cs ≡ noPoints n → ks ≡ noContours k → hs ≡ noHoles k
     → y ≡ put (afterConnection (connectEdges p list (Connects.lent cs ks hs))) out → y ≡ put (afterConnection (connectEdges p list (emptyOutlines n k))) out
 in-places n k out p list cs ks hs y e f g h =
     h
-    ∙ ap (λ (l : List (List Float)). put (afterConnection (connectEdges p list (Connects.lent l ks hs))) out) e
+    ∙ ap (λ (l : List (List ℕ)). put (afterConnection (connectEdges p list (Connects.lent l ks hs))) out) e
     ∙ ap (λ (l : List (List ℕ)). put (afterConnection (connectEdges p list (Connects.lent (noPoints n) l hs))) out) f
     ∙ ap (λ (l : List ℕ). put (afterConnection (connectEdges p list (Connects.lent (noPoints n) (noContours k) l))) out) g
 
-pub in-pool : (n : ℕ) (out : List ℕ) (o : Operation) (ends : List (List Float)) (labels : List (List ℕ)) (ps : List (List Float)) (ms : List (List ℕ)) (ts : List ℕ) (y : After) → ps ≡ noPoints n → ms ≡ noMarks n → ts ≡ noneTaken n
+pub in-pool : (n : ℕ) (out : List ℕ) (o : Operation) (ends : List (List ℕ)) (labels : List (List ℕ)) (ps : List (List ℕ)) (ms : List (List ℕ)) (ts : List ℕ) (y : After) → ps ≡ noPoints n → ms ≡ noMarks n → ts ≡ noneTaken n
     → y ≡ put (afterLoading o ts (Loads.load ends labels (pool ps ms))) out → y ≡ put (overlayEdgesIn n o ends labels) out
 unfolding overlayEdgesIn
 in-pool n out o ends labels ps ms ts y e f g h =
     h
-    ∙ ap (λ (l : List (List Float)). put (afterLoading o ts (Loads.load ends labels (pool l ms))) out) e
+    ∙ ap (λ (l : List (List ℕ)). put (afterLoading o ts (Loads.load ends labels (pool l ms))) out) e
     ∙ ap (λ (l : List (List ℕ)). put (afterLoading o ts (Loads.load ends labels (pool (noPoints n) l))) out) f
     ∙ ap (λ (l : List ℕ). put (afterLoading o l (Loads.load ends labels (emptyPool n))) out) g
 

@@ -11,7 +11,7 @@ use lib.ListN.{length, take}
 use lib.Seq.{sets}
 use Rattle.lists.proofs.Fronts.{first-are}
 use Rattle.refusals.specs.declared.Refusal.{Refusal}
-use Rattle.numbers.specs.declared.Coordinate.{Coordinate}
+use Rattle.numbers.specs.declared.Point.{Point}
 use Rattle.crossing.specs.Modes.{ordered}
 use Rattle.events.specs.Binary64.{atBinary64}
 use Rattle.class.specs.declared.Operation.{Operation}
@@ -44,7 +44,7 @@ no-text r t e = let z : _≡_ {A = ℕ} 0 1 = cc in omega arith
 
 -- ---- the sweep
 
-never-past : (o : Operation) → NeverEarly o → (a b : Option Coordinate) (q : Coordinate) → isPast atBinary64 o a b q ≡ false
+never-past : (o : Operation) → NeverEarly o → (a b : Option Point) (q : Point) → isPast atBinary64 o a b q ≡ false
 unfolding isPast NeverEarly
 never-past Intersection h a b q = absurd h
 never-past Difference h a b q = absurd h

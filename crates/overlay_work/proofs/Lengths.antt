@@ -9,11 +9,10 @@ use Prim.Native.Nat.{ℕ, min, _≤_}
 use native.Mathlib.Omega.{arith}
 use borrow.Author.Tests.{le-ltb}
 use lib.Dec.{ltb}
-use lib.Ieee.{Float}
 use lib.ListN.{length, take, length-take}
 use lib.Seq.{sets, length-sets}
 use Rattle.refusals.specs.declared.Refusal.{Refusal}
-use Rattle.numbers.specs.declared.Coordinate.{Coordinate}
+use Rattle.numbers.specs.declared.Point.{Point}
 use Rattle.crossing.specs.Modes as Modes
 use Rattle.events.specs.Binary64.{atBinary64, inMode}
 use Rattle.events.specs.Pool.{Pool, stored}
@@ -64,7 +63,7 @@ module _ (p : Pool) (list : List ℕ) (few : length list ≤ poolPlaces) where
   roomy : Roomy list (roomOf arrays)
   roomy = empty-roomy poolPlaces contourPlaces list few (omega (arith, few))
 
-  fair-text : (f : Finished Coordinate Pool) → connectPool p list (roomOf arrays) ≡ connected f → Fair (afterConnection (after (connected f) p arrays))
+  fair-text : (f : Finished Point Pool) → connectPool p list (roomOf arrays) ≡ connected f → Fair (afterConnection (after (connected f) p arrays))
   unfolding given
   fair-text f e =
       let s : given (connectPool p list (roomOf arrays)) ≡ some f = ap given e in
@@ -79,7 +78,7 @@ module _ (p : Pool) (list : List ℕ) (few : length list ≤ poolPlaces) where
   unfolding overlayTaken connectEdges afterConnection connectedTo after told
   fair-taken = go (connectPool p list (roomOf arrays)) refl
     where
-      go : (x : C.Outcome Coordinate Pool) → connectPool p list (roomOf arrays) ≡ x → Fair (afterConnection (after x p arrays))
+      go : (x : C.Outcome Point Pool) → connectPool p list (roomOf arrays) ≡ x → Fair (afterConnection (after x p arrays))
       go (refused r) e = always-room p list (roomOf arrays) roomy r e
       go (stopped r f) e = stopped-by p list (roomOf arrays) r f e
       go (connected f) e = fair-text f e
@@ -105,7 +104,7 @@ fair-swept o p n = go (x .answer .outcome) refl
     go Sweeping.Done e = fair-taken _ _ (omega (arith, length-take (x .answer .taken) (x .taken), taken-places o p n (noneTaken poolPlaces), taken-room poolPlaces))
     go (Sweeping.Refused r) e = sweep-by o p n (noneTaken poolPlaces) r e
 
-fair-loaded : (o : Operation) (ends : List (List Float)) (labels : List (List ℕ)) (p : Pool) → Fair (afterLoading o (noneTaken poolPlaces) (Loads.load ends labels p))
+fair-loaded : (o : Operation) (ends : List (List ℕ)) (labels : List (List ℕ)) (p : Pool) → Fair (afterLoading o (noneTaken poolPlaces) (Loads.load ends labels p))
 unfolding afterLoading loadedTo
 fair-loaded o ends labels p = go (Loads.load ends labels p .answer) refl
   where

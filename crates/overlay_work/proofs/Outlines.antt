@@ -7,7 +7,7 @@ use Prim.Native.Nat.{ℕ, _+_, _≤_}
 use native.Mathlib.Omega.{arith}
 use lib.Dec.{ltb}
 use lib.ListN.{length}
-use Rattle.numbers.specs.declared.Coordinate.{Coordinate}
+use Rattle.numbers.specs.declared.Point.{Point}
 use Rattle.events.specs.Binary64.{atBinary64}
 use Rattle.events.specs.Pool.{Pool, stored}
 use Rattle.checks.specs.declared.Check.{Check}
@@ -83,13 +83,13 @@ module _ (p : Pool) (list : List ℕ) where
 
   -- ---- the text
 
-  pub text-of : (l : Lent) (f : Finished Coordinate Pool) → connectPool p list (roomOf l) ≡ connected f → afterConnection (after (connected f) p l) ≡ Text (printed (f .outlines))
+  pub text-of : (l : Lent) (f : Finished Point Pool) → connectPool p list (roomOf l) ≡ connected f → afterConnection (after (connected f) p l) ≡ Text (printed (f .outlines))
   unfolding afterConnection connectedTo after told given
   text-of l f e =
       let h = enough p list (roomOf l) f (ap given e) in
       ap Text (text-is (f .outlines) l (h .0) (h .1) (h .2))
 
-  each-outcome : (l l′ : Lent) (x : C.Outcome Coordinate Pool) → connectPool p list (roomOf l) ≡ x → connectPool p list (roomOf l′) ≡ x → afterConnection (after x p l) ≡ afterConnection (after x p l′)
+  each-outcome : (l l′ : Lent) (x : C.Outcome Point Pool) → connectPool p list (roomOf l) ≡ x → connectPool p list (roomOf l′) ≡ x → afterConnection (after x p l) ≡ afterConnection (after x p l′)
   unfolding afterConnection connectedTo after told
   each-outcome l l′ (refused r) e e′ = refl
   each-outcome l l′ (stopped r f) e e′ = refl
@@ -99,7 +99,7 @@ module _ (p : Pool) (list : List ℕ) where
   unfolding connectEdges
   same-outlines l l′ h h′ =
       let same = same-connection (roomOf l) (roomOf l′) h h′ in
-      each-outcome l l′ (connectPool p list (roomOf l)) refl (sym same) ∙ ap (λ (x : C.Outcome Coordinate Pool). afterConnection (after x p l′)) same
+      each-outcome l l′ (connectPool p list (roomOf l)) refl (sym same) ∙ ap (λ (x : C.Outcome Point Pool). afterConnection (after x p l′)) same
 
 -- ---- the empty arrays
 

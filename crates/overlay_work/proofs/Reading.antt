@@ -3,7 +3,6 @@ use mathlib.Core.Path.{_≡_, refl, ap, _∙_}
 use mathlib.Core.List.{List, map}
 use Prim.Native.Nat.{ℕ, _+_, _≤_}
 use native.Mathlib.Omega.{arith}
-use lib.Ieee.{Float}
 use lib.ListN.{length, take, length-append, length-map}
 use lib.Seq.{sets, length-sets}
 use Rattle.lists.proofs.Fronts.{first-are}
@@ -76,9 +75,9 @@ unfolding leave
 leaves-room (Accepted s) = (length-sets noEnds 0 (endsIn s) ∙ ends-room, length-sets noLabels 0 (labelsIn s) ∙ labels-room)
 leaves-room (R.Refused number line) = (ends-room, labels-room)
 
-module _ (r : Reading) (f : Fitting r) (x : Told) (es es₀ : List (List Float)) (ls ls₀ : List (List ℕ)) (h : es₀ ≡ noEnds) (k : ls₀ ≡ noLabels) (e : Stored.left x es ls ≡ leave r es₀ ls₀) where
+module _ (r : Reading) (f : Fitting r) (x : Told) (es es₀ : List (List ℕ)) (ls ls₀ : List (List ℕ)) (h : es₀ ≡ noEnds) (k : ls₀ ≡ noLabels) (e : Stored.left x es ls ≡ leave r es₀ ls₀) where
   left-is : Stored.left x es ls ≡ leave r noEnds noLabels
-  left-is = e ∙ ap (λ (y : List (List Float)). leave r y ls₀) h ∙ ap (leave r noEnds) k
+  left-is = e ∙ ap (λ (y : List (List ℕ)). leave r y ls₀) h ∙ ap (leave r noEnds) k
 
   few : toldCount x ≤ mostEdges
   few =
@@ -101,7 +100,7 @@ pub counted : (x : Told) (o : Operation) (a c n : ℕ) → x ≡ Read o a c → 
 unfolding toldCount
 counted x o a c n e h = rw e at h
 
-module _ (x : Told) (es : List (List Float)) (ls : List (List ℕ)) (out : List ℕ) where
+module _ (x : Told) (es : List (List ℕ)) (ls : List (List ℕ)) (out : List ℕ) where
   pub told-refused : (q : Refusal) → x ≡ NotRead q → left (Refused q) out ≡ put (toldTo x es ls) out
   unfolding toldTo put
   told-refused q e = rw e

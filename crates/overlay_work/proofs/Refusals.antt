@@ -6,10 +6,9 @@ use mathlib.Core.List.{List, [], _∷_}
 use Prim.Native.Nat.{ℕ, zero, suc, _+_, _-_, _*_}
 use native.Mathlib.Omega.{arith}
 use lib.Dec.{eqb, ltb}
-use lib.Ieee.{Float}
 use lib.ListN.{length}
 use Rattle.refusals.specs.declared.Refusal.{Refusal}
-use Rattle.numbers.specs.declared.Coordinate.{Coordinate}
+use Rattle.numbers.specs.declared.Point.{Point}
 use Rattle.events.specs.Coordinates.{same}
 use Rattle.events.specs.Binary64.{atBinary64}
 use Rattle.events.specs.Pool.{Pool}
@@ -91,23 +90,23 @@ unfolding andThen
 both-by Passed b h k = k
 both-by (Struck r) b h k = h
 
-edge-by : (i : ℕ) (e : Edge Coordinate) → CheckBy (checkedEdge atBinary64 i e)
+edge-by : (i : ℕ) (e : Edge Point) → CheckBy (checkedEdge atBinary64 i e)
 unfolding checkedEdge
 edge-by i e =
     struck-by (not (atBinary64 .fit (e .from)) || not (atBinary64 .fit (e .to))) _ _ (omega arith) (struck-by (same atBinary64 (e .from) (e .to)) _ Passed (omega arith) tt)
 
-edges-by : (i : ℕ) (l : List (Edge Coordinate)) → CheckBy (checkedEdges atBinary64 i l)
+edges-by : (i : ℕ) (l : List (Edge Point)) → CheckBy (checkedEdges atBinary64 i l)
 unfolding checkedEdges
 edges-by i [] = tt
 edges-by i (e ∷ l) = both-by (checkedEdge atBinary64 i e) _ (edge-by i e) (edges-by (suc i) l)
 
-accept-by : (ends : List (List Float)) (labels : List (List ℕ)) (p : Pool) → CheckBy (Loads.accept ends labels p)
+accept-by : (ends : List (List ℕ)) (labels : List (List ℕ)) (p : Pool) → CheckBy (Loads.accept ends labels p)
 unfolding Loads.accept edgesSized poolSized
 accept-by ends labels p =
     both-by _ _ (struck-by (not (eqb (length ends) (length labels)) || ltb maxEdges (length ends)) _ Passed (omega arith) tt)
     (both-by _ _ (struck-by (missized (length (p .points)) (length (p .marks)) || ltb (length (p .points)) (2 * length ends)) _ Passed (omega arith) tt) (edges-by 0 _))
 
-pub load-by : (ends : List (List Float)) (labels : List (List ℕ)) (p : Pool) (r : Refusal) → load ends labels p .answer ≡ Loading.Refused r → r .number ≢ 5
+pub load-by : (ends : List (List ℕ)) (labels : List (List ℕ)) (p : Pool) (r : Refusal) → load ends labels p .answer ≡ Loading.Refused r → r .number ≢ 5
 unfolding load Loads.afterChecks
 load-by ends labels p r = go (Loads.accept ends labels p) (accept-by ends labels p)
   where
@@ -129,5 +128,5 @@ sweep-by o p n lent r e = known-by r (told-by o Modes.ordered p n lent r e)
 
 -- ---- connection, once its checks have passed
 
-pub stopped-by : (p : Pool) (list : List ℕ) (room : Room) (r : Refusal) (f : Finished Coordinate Pool) → connectPool p list room ≡ stopped r f → r .number ≢ 5
+pub stopped-by : (p : Pool) (list : List ℕ) (room : Room) (r : Refusal) (f : Finished Point Pool) → connectPool p list room ≡ stopped r f → r .number ≢ 5
 stopped-by p list room r f e = omega (arith, stopped-nine p list room r f e)

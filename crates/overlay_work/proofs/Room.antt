@@ -6,10 +6,8 @@ use mathlib.Core.List.{List}
 use Prim.Native.Nat.{ℕ, _*_, _≤_}
 use native.Mathlib.Omega.{arith}
 use lib.Dec.{eqb, ltb}
-use lib.Ieee.{Float}
 use lib.ListN.{length, take, replicate, length-take}
 use lib.Seq.{sets, take-take}
-use Rattle.numbers.specs.Binary64 as B
 use Rattle.events.specs.Pool.{Pool, pool, size, stored}
 use Rattle.class.specs.declared.Operation.{Operation}
 use Rattle.checks.specs.declared.Check.{Check}
@@ -38,7 +36,7 @@ use Rattle.overlay_work.proofs.Handing.{taken-within, in-use}
 -- ---- loading
 
 -- two records for each edge
-records-few : (ends : List (List Float)) (labels : List (List ℕ)) (p : Pool) (k : ℕ) → load ends labels p .answer ≡ Loading.Done k → k ≤ 2 * length ends
+records-few : (ends : List (List ℕ)) (labels : List (List ℕ)) (p : Pool) (k : ℕ) → load ends labels p .answer ≡ Loading.Done k → k ≤ 2 * length ends
 unfolding load afterChecks
 records-few ends labels p k = go (accept ends labels p)
   where
@@ -102,10 +100,10 @@ module _ (o : Operation) (n : ℕ) (p : Pool) (k : ℕ) (taken : List ℕ) (larg
 
 -- ---- both, from empty places
 
-module _ (n m : ℕ) (within : n ≤ m) (few : m ≤ maxEvents) (o : Operation) (ends : List (List Float)) (labels : List (List ℕ)) (room : 2 * length ends ≤ n) where
+module _ (n m : ℕ) (within : n ≤ m) (few : m ≤ maxEvents) (o : Operation) (ends : List (List ℕ)) (labels : List (List ℕ)) (room : 2 * length ends ≤ n) where
   first-points : take n (noPoints m) ≡ noPoints n
   unfolding noPoints
-  first-points = take-alike n m (replicate 2 B.zero) within
+  first-points = take-alike n m (replicate 2 0) within
 
   first-marks : take n (noMarks m) ≡ noMarks n
   unfolding noMarks
@@ -121,7 +119,7 @@ module _ (n m : ℕ) (within : n ≤ m) (few : m ≤ maxEvents) (o : Operation) 
   loads : load ends labels (emptyPool n) ≡ Loads.after (x .answer) (firstPlaces n (x .pool))
   unfolding firstOfLoaded
   loads =
-      sym (ap₂ (λ (ps : List (List Float)) (ms : List (List ℕ)). load ends labels (pool ps ms)) first-points first-marks)
+      sym (ap₂ (λ (ps : List (List ℕ)) (ms : List (List ℕ)). load ends labels (pool ps ms)) first-points first-marks)
       ∙ load-room n ends labels (emptyPool m) (omega (arith, within, points-room m)) (marks-room m ∙ sym (points-room m)) (omega (arith, few, points-room m)) room
 
   larger : Larger n (x .pool) (noneTaken m)
@@ -165,7 +163,7 @@ unfolding put isFull
 not-stopped (Text t) out h = refl
 not-stopped (Stopped r) out h = h
 
-module _ (o : Operation) (ends : List (List Float)) (labels : List (List ℕ)) (out : List ℕ) where
+module _ (o : Operation) (ends : List (List ℕ)) (labels : List (List ℕ)) (out : List ℕ) where
   pub in-large : (y : After) → y ≡ put (overlayEdgesIn poolPlaces o ends labels) out → y ≡ put (overlayEdges o ends labels) out
   unfolding overlayEdges
   in-large y h = h

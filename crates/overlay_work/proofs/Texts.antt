@@ -5,10 +5,9 @@ use mathlib.Core.List.{List, [], _∷_, _++_, map}
 use Prim.Native.Nat.{ℕ, _+_, _≤_}
 use native.Mathlib.Numerals.{add-one}
 use native.Mathlib.Omega.{arith}
-use lib.Ieee.{Float}
 use lib.ListN.{length, take, drop}
 use lib.Seq.{take-append-seam}
-use Rattle.numbers.specs.declared.Coordinate.{Coordinate}
+use Rattle.numbers.specs.declared.Point.{Point}
 use Rattle.contours.specs.Outline.{Outline, cornerCount, holeCount}
 use Rattle.rows.specs.Rows.{pointCode}
 use Rattle.starts.specs.Starts.{codeOf}
@@ -22,17 +21,17 @@ use Rattle.printing.proofs.Held.{held}
 
 -- ---- the arrays of connection are those that printing speaks of
 
-points-same : (l : List Coordinate) → map pointCode l ≡ map numbersOf l
+points-same : (l : List Point) → map pointCode l ≡ map numbersOf l
 unfolding pointCode numbersOf
 points-same [] = refl
-points-same (p ∷ l) = ap (λ (m : List (List Float)). numbersOf p ∷ m) (points-same l)
+points-same (p ∷ l) = ap (λ (m : List (List ℕ)). numbersOf p ∷ m) (points-same l)
 
-corners-same : (os : List (Outline Coordinate)) → cornersIn os ≡ allCorners os
+corners-same : (os : List (Outline Point)) → cornersIn os ≡ allCorners os
 unfolding cornersIn allCorners
 corners-same [] = refl
 corners-same (o ∷ os) = rw (points-same (o .corners), corners-same os)
 
-holes-same : (os : List (Outline Coordinate)) → holesIn os ≡ allHoles os
+holes-same : (os : List (Outline Point)) → holesIn os ≡ allHoles os
 unfolding holesIn allHoles
 holes-same [] = refl
 holes-same (o ∷ os) = rw (holes-same os)
@@ -42,19 +41,19 @@ unfolding codeOf numberOf
 code-same none = refl
 code-same (some p) = add-one p
 
-rows-same : (c h : ℕ) (os : List (Outline Coordinate)) → rowsIn c h os ≡ rowsFrom c h os
+rows-same : (c h : ℕ) (os : List (Outline Point)) → rowsIn c h os ≡ rowsFrom c h os
 unfolding rowsIn rowIn rowsFrom
 rows-same c h [] = refl
 rows-same c h (o ∷ os) = rw (code-same (o .parent), rows-same (c + length (o .corners)) (h + length (o .holes)) os)
 
 -- ---- the text
 
-pub text-is : (os : List (Outline Coordinate)) (l : Lent) → length os ≤ length (l .contours) → cornerCount os ≤ length (l .corners) → holeCount os ≤ length (l .holes)
+pub text-is : (os : List (Outline Point)) (l : Lent) → length os ≤ length (l .contours) → cornerCount os ≤ length (l .corners) → holeCount os ≤ length (l .holes)
     → printedArrays (written os l .corners) (written os l .contours) (written os l .holes) (length os) ≡ printed os
 unfolding written
 text-is os l h k m =
     held os _ _ _ _ _ (length os)
-    (sets-front (l .corners) (cornersIn os) (omega (arith, corners-count os)) ∙ ap (λ (v : List (List Float)). v ++ drop (length (cornersIn os)) (l .corners)) (corners-same os))
+    (sets-front (l .corners) (cornersIn os) (omega (arith, corners-count os)) ∙ ap (λ (v : List (List ℕ)). v ++ drop (length (cornersIn os)) (l .corners)) (corners-same os))
     (sets-front (l .holes) (holesIn os) (omega (arith, holes-count os)) ∙ ap (λ (v : List ℕ). v ++ drop (length (holesIn os)) (l .holes)) (holes-same os))
     (ap (take (length os)) (sets-front (l .contours) (rowsIn 0 0 os) (omega (arith, rows-count 0 0 os)))
     ∙ ap (λ (n : ℕ). take n (rowsIn 0 0 os ++ drop (length (rowsIn 0 0 os)) (l .contours))) (sym (rows-count 0 0 os))

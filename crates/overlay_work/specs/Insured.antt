@@ -4,7 +4,7 @@ use mathlib.Core.Path.{_≡_}
 use mathlib.Core.List.{List, List·Memᴰ}
 use Prim.Native.Nat.{ℕ, _<_}
 use lib.ListN.{take}
-use Rattle.numbers.specs.declared.Coordinate.{Coordinate}
+use Rattle.numbers.specs.declared.Point.{Point}
 use Rattle.crossing.specs.Modes.{ordered}
 use Rattle.events.specs.Binary64.{atBinary64}
 use Rattle.events.specs.Pool.{Pool, rowAt}
@@ -66,7 +66,7 @@ NeverEarly Xor = Unit {0}
 
 pub record Insured (bytes text : List ℕ) : Type 0 where
   pub run : Run bytes
-  pub outlines : List (Outline Coordinate)
+  pub outlines : List (Outline Point)
   -- the text shows these contours
   pub shows : text ≡ printed outlines
   -- each two neighbouring corners are the two ends of a wall, and each wall is at one place of one contour

@@ -5,11 +5,9 @@ use mathlib.Core.Bool.{Bool, false, cond}
 use mathlib.Core.List.{List, _++_, map}
 use Prim.Native.Nat.{ℕ, min}
 use lib.Dec.{eqb, ltb}
-use lib.Ieee.{Float}
 use lib.ListN.{length, take, replicate}
 use lib.Seq.{sets}
 use Rattle.refusals.specs.declared.Refusal.{Refusal}
-use Rattle.numbers.specs.Binary64.{zero}
 use Rattle.events.specs.Pool.{Pool, pool}
 use Rattle.class.specs.declared.Operation.{Operation}
 use Rattle.checks.specs.Checks.{fewEvents}
@@ -53,15 +51,15 @@ fewPlaces = fewEvents
 abbrev pub fewContours : ℕ
 fewContours = 128
 
-unfoldable pub noEnds : List (List Float)
-noEnds = replicate mostEdges (replicate 4 zero)
+unfoldable pub noEnds : List (List ℕ)
+noEnds = replicate mostEdges (replicate 4 0)
 
 unfoldable pub noLabels : List (List ℕ)
 noLabels = replicate mostEdges (replicate 2 0)
 
 -- n places
-unfoldable pub noPoints : ℕ → List (List Float)
-noPoints n = replicate n (replicate 2 zero)
+unfoldable pub noPoints : ℕ → List (List ℕ)
+noPoints n = replicate n (replicate 2 0)
 
 unfoldable pub noMarks : ℕ → List (List ℕ)
 noMarks n = replicate n (replicate 12 0)
@@ -113,14 +111,14 @@ unfoldable pub afterLoading : Operation → List ℕ → Loads.After → Work
 afterLoading o taken x = loadedTo o taken (x .answer) (x .pool)
 
 -- in a pool of n places
-unfoldable pub overlayEdgesIn : ℕ → Operation → List (List Float) → List (List ℕ) → Work
+unfoldable pub overlayEdgesIn : ℕ → Operation → List (List ℕ) → List (List ℕ) → Work
 overlayEdgesIn n o ends labels = afterLoading o (noneTaken n) (load ends labels (emptyPool n))
 
-unfoldable pub overlayEdges : Operation → List (List Float) → List (List ℕ) → Work
+unfoldable pub overlayEdges : Operation → List (List ℕ) → List (List ℕ) → Work
 overlayEdges o ends labels = overlayEdgesIn poolPlaces o ends labels
 
 -- a sheet's edges in the form that loading takes, subject first
-abbrev pub endsIn : Sheet → List (List Float)
+abbrev pub endsIn : Sheet → List (List ℕ)
 endsIn s = map endsOf (s .subject) ++ map endsOf (s .clip)
 
 abbrev pub labelsIn : Sheet → List (List ℕ)

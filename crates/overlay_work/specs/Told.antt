@@ -1,7 +1,6 @@
 -- The work on what a reading told and left in the arrays: a contract of private parts.
 use mathlib.Core.List.{List}
 use Prim.Native.Nat.{ℕ, _+_}
-use lib.Ieee.{Float}
 use lib.ListN.{take}
 use Rattle.sheet.specs.declared.Told.{Told}
 use Rattle.sheet.specs.declared.Told.the-variants.{Read, Refused}
@@ -12,6 +11,6 @@ unfoldable pub toldCount : Told → ℕ
 toldCount (Read o a c) = a + c
 toldCount (Refused r) = 0
 
-unfoldable pub toldTo : Told → List (List Float) → List (List ℕ) → Work
+unfoldable pub toldTo : Told → List (List ℕ) → List (List ℕ) → Work
 toldTo (Read o a c) ends labels = overlayEdges o (take (a + c) ends) (take (a + c) labels)
 toldTo (Refused r) ends labels = Stopped r

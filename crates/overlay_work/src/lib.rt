@@ -38,7 +38,7 @@ const FEW_EDGES: usize = 24;
 // The edges of a sheet, in the large pool.
 fn overlay_many(
     operation: Operation,
-    ends: &[[f64; 4]],
+    ends: &[[u64; 4]],
     labels: &[[u32; 2]],
     out: &mut [u8],
 ) -> Overlaid
@@ -61,7 +61,7 @@ fn overlay_many(
 // The same in the small one.
 fn overlay_few(
     operation: Operation,
-    ends: &[[f64; 4]],
+    ends: &[[u64; 4]],
     labels: &[[u32; 2]],
     out: &mut [u8],
 ) -> Overlaid
@@ -93,7 +93,7 @@ fn is_full(overlaid: Overlaid) -> bool
 // Few edges are worked in the small pool, and again in the large one only where that is full.
 fn overlay_edges(
     operation: Operation,
-    ends: &[[f64; 4]],
+    ends: &[[u64; 4]],
     labels: &[[u32; 2]],
     out: &mut [u8],
 ) -> Overlaid
@@ -110,7 +110,7 @@ fn overlay_edges(
 }
 
 // What was read is in the first places of the arrays, or is refused.
-fn overlay_told(told: Told, ends: &[[f64; 4]], labels: &[[u32; 2]], out: &mut [u8]) -> Overlaid
+fn overlay_told(told: Told, ends: &[[u64; 4]], labels: &[[u32; 2]], out: &mut [u8]) -> Overlaid
     requires { ⌜ (toldCount told ≤ length (now ends)) × (toldCount told ≤ length (now labels)) ⌝ }
     ensures { λ r. ⌜ left r (now (out .exit)) ≡ put (toldTo told (now (ends .entry)) (now (labels .entry))) (now (out .entry)) ⌝ }
 {

@@ -12,10 +12,10 @@ const CONTOURS: usize = 512;
 
 const FEW_CONTOURS: usize = 128;
 
-pub fn no_ends() -> [[f64; 4]; EDGES]
+pub fn no_ends() -> [[u64; 4]; EDGES]
     ensures { λ r. ⌜ r ≡ noEnds ⌝ }
 {
-    [[0.0; 4]; EDGES]
+    [[0; 4]; EDGES]
 }
 
 pub fn no_labels() -> [[u32; 2]; EDGES]
@@ -24,10 +24,10 @@ pub fn no_labels() -> [[u32; 2]; EDGES]
     [[0u32; 2]; EDGES]
 }
 
-pub fn no_points() -> [[f64; 2]; POOL]
+pub fn no_points() -> [[u64; 2]; POOL]
     ensures { λ r. ⌜ r ≡ noPoints poolPlaces ⌝ }
 {
-    [[0.0; 2]; POOL]
+    [[0; 2]; POOL]
 }
 
 pub fn no_marks() -> [[u32; 12]; POOL]
@@ -54,10 +54,10 @@ pub fn no_holes() -> [u32; CONTOURS]
     [0u32; CONTOURS]
 }
 
-pub fn few_points() -> [[f64; 2]; FEW]
+pub fn few_points() -> [[u64; 2]; FEW]
     ensures { λ r. ⌜ r ≡ noPoints fewPlaces ⌝ }
 {
-    [[0.0; 2]; FEW]
+    [[0; 2]; FEW]
 }
 
 pub fn few_marks() -> [[u32; 12]; FEW]

@@ -27,7 +27,7 @@ use sweep::subdivide;
 
 // Counted before it is printed, so that bytes too few stay as lent.
 fn print_text(
-    corners: &[[f64; 2]],
+    corners: &[[u64; 2]],
     contours: &[[u32; 6]],
     holes: &[u32],
     count: u32,
@@ -48,10 +48,10 @@ fn print_text(
 }
 
 fn connect_in(
-    points: &[[f64; 2]],
+    points: &[[u64; 2]],
     marks: &mut [[u32; 12]],
     list: &[u32],
-    corners: &mut [[f64; 2]],
+    corners: &mut [[u64; 2]],
     contours: &mut [[u32; 6]],
     holes: &mut [u32],
     out: &mut [u8],
@@ -69,7 +69,7 @@ fn connect_in(
 }
 
 fn connect_many(
-    points: &[[f64; 2]],
+    points: &[[u64; 2]],
     marks: &mut [[u32; 12]],
     list: &[u32],
     out: &mut [u8],
@@ -91,7 +91,7 @@ fn connect_many(
 }
 
 fn connect_few(
-    points: &[[f64; 2]],
+    points: &[[u64; 2]],
     marks: &mut [[u32; 12]],
     list: &[u32],
     out: &mut [u8],
@@ -114,7 +114,7 @@ fn connect_few(
 
 // Few events have room enough in the smaller arrays.
 fn connect_taken(
-    points: &[[f64; 2]],
+    points: &[[u64; 2]],
     marks: &mut [[u32; 12]],
     list: &[u32],
     out: &mut [u8],
@@ -130,7 +130,7 @@ fn connect_taken(
 fn sweep_loaded(
     operation: Operation,
     loaded: u32,
-    points: &mut [[f64; 2]],
+    points: &mut [[u64; 2]],
     marks: &mut [[u32; 12]],
     taken: &mut [u32],
     out: &mut [u8],
@@ -151,9 +151,9 @@ fn sweep_loaded(
 
 pub fn load_edges(
     operation: Operation,
-    ends: &[[f64; 4]],
+    ends: &[[u64; 4]],
     labels: &[[u32; 2]],
-    points: &mut [[f64; 2]],
+    points: &mut [[u64; 2]],
     marks: &mut [[u32; 12]],
     taken: &mut [u32],
     out: &mut [u8],

@@ -9,7 +9,7 @@ use borrow.Author.Tests.{ltb-true, ltb-false, ne-eqb, le-ltb}
 use lib.Dec.{eqb, ltb}
 use lib.ListN.{length, getD}
 use Rattle.events.specs.Binary64.{atBinary64}
-use Rattle.numbers.specs.declared.Coordinate.{Coordinate}
+use Rattle.numbers.specs.declared.Point.{Point}
 use Rattle.events.specs.Event.{Event, hasTransition}
 use Rattle.events.specs.Pool.{Pool, rowAt, blank}
 use Rattle.checks.specs.Numbers.{numbersFrom}
@@ -59,7 +59,7 @@ row-out p r h = rw (le-ltb _ _ h)
 
 blank-out : (p : Pool) (r : ℕ) → length (p .points) ≤ r → inResult (rowAt p) r ≡ false
 unfolding inResult blank hasTransition
-blank-out p r h = rw (row-out p r h) (ap (λ (e : Event Coordinate). hasTransition (e .transition)) (row-out p r h))
+blank-out p r h = rw (row-out p r h) (ap (λ (e : Event Point). hasTransition (e .transition)) (row-out p r h))
 
 all-in : (p : Pool) (l : List ℕ) → All (λ (x : ℕ). inResult (rowAt p) x ≡ true) (orderedIn p l)
 unfolding orderedIn ordered results

@@ -8,7 +8,7 @@ use order::before_at;
 use results::in_result;
 
 // One more record of the list: behind the others if it is a result event, and the count.
-fn append(points: &[[f64; 2]], marks: &[[u32; 12]], order: &mut [u32], n: usize, r: u32) -> usize
+fn append(points: &[[u64; 2]], marks: &[[u32; 12]], order: &mut [u32], n: usize, r: u32) -> usize
     requires { ⌜ n < length (now order) ⌝ }
     ensures { λ k. ⌜ Appended (pool (now (points .entry)) (now (marks .entry))) (now (order .entry)) n r (now (order .exit)) k ⌝ }
 {
@@ -21,7 +21,7 @@ fn append(points: &[[f64; 2]], marks: &[[u32; 12]], order: &mut [u32], n: usize,
 
 // The result events in front of order, and how many they are.
 pub fn copy_results(
-    points: &[[f64; 2]],
+    points: &[[u64; 2]],
     marks: &[[u32; 12]],
     list: &[u32],
     order: &mut [u32],
@@ -39,7 +39,7 @@ pub fn copy_results(
 }
 
 // Each of the first n of order is before the next.
-pub fn is_sorted(points: &[[f64; 2]], marks: &[[u32; 12]], order: &[u32], n: usize) -> bool
+pub fn is_sorted(points: &[[u64; 2]], marks: &[[u32; 12]], order: &[u32], n: usize) -> bool
     requires { ⌜ n ≤ length (now order) ⌝ }
     ensures { λ x. ⌜ x ≡ isSorted (earlierIn (pool (now (points .entry)) (now (marks .entry)))) (take n (now (order .entry))) ⌝ }
 {

@@ -7,14 +7,13 @@ use native.Mathlib.Omega.{arith}
 use lib.ListN.{length, take, drop}
 use lib.Seq.{drop-at, drop-append-seam, take-at}
 use Rattle.refusals.specs.declared.Refusal.{Refusal}
-use Rattle.numbers.specs.declared.Coordinate.{Coordinate}
+use Rattle.numbers.specs.declared.Point.{Point}
 use Rattle.text.specs.declared.digits.Read.the-variants.{Value}
 use Rattle.text.specs.Quoted.{quoted}
 use Rattle.text.specs.Digits.{digitOf, value, hex, decimal}
 use Rattle.text.proofs.Writing.{digits-length}
 use Rattle.text.proofs.Back.{back, decimal-back}
 use Rattle.contours.specs.Outline.{Outline}
-use Rattle.sheet.specs.declared.edges.Corner.{Corner}
 use Rattle.sheet.specs.Sheet.{CornerFits, countLine, numberBytes}
 use Rattle.sheet.specs.Reading.{run, numeral}
 use Rattle.sheet.proofs.Fronts.{decimal-some, run-decimal, numeral-front}
@@ -96,7 +95,7 @@ holes-apart (a ∷ l) (b ∷ m) s t n h k e =
     let q = holes-apart l m s t (omega arith) (h .1) (k .1) (p .1) in
     ((λ i. p .0 i ∷ q .0 i), q .1)
 
-corner-apart : (p q : Corner) (s t : List ℕ) → CornerFits p → CornerFits q → cornerLine p ++ s ≡ cornerLine q ++ t → (p ≡ q) × (s ≡ t)
+corner-apart : (p q : Point) (s t : List ℕ) → CornerFits p → CornerFits q → cornerLine p ++ s ≡ cornerLine q ++ t → (p ≡ q) × (s ≡ t)
 unfolding cornerLine numberBytes
 corner-apart p q s t h k e =
     let open-p : (hex (p .x) ++ ((32 ∷ hex (p .y)) ++ (10 ∷ []))) ++ s ≡ hex (p .x) ++ (32 ∷ (hex (p .y) ++ (10 ∷ s))) = append-assoc (hex (p .x)) ((32 ∷ hex (p .y)) ++ (10 ∷ [])) s ∙ ap (λ (l : List ℕ). hex (p .x) ++ (32 ∷ l)) (append-assoc (hex (p .y)) (10 ∷ []) s) in
@@ -105,7 +104,7 @@ corner-apart p q s t h k e =
     let g = hex-apart (p .y) (q .y) (10 ∷ s) (10 ∷ t) (h .y) (k .y) (ap (drop 1) (f .1)) in
     ((λ i. record { x = f .0 i; y = g .0 i }), ap (drop 1) (g .1))
 
-corners-apart : (l m : List Corner) (s t : List ℕ) → length l ≡ length m → CornersFit l → CornersFit m → cornerLines l ++ s ≡ cornerLines m ++ t → (l ≡ m) × (s ≡ t)
+corners-apart : (l m : List Point) (s t : List ℕ) → length l ≡ length m → CornersFit l → CornersFit m → cornerLines l ++ s ≡ cornerLines m ++ t → (l ≡ m) × (s ≡ t)
 unfolding cornerLines
 corners-apart [] [] s t n h k e = (refl, e)
 corners-apart [] (b ∷ m) s t n h k e = absurd (omega arith)
@@ -156,7 +155,7 @@ drawing-apart l m h k x y e =
     contours-apart l m (p .0) h k (p .1)
 
 -- results that print alike are alike in parents, depths, holes and, bit for bit, corners
-pub printed-apart : (a b : List (Outline Coordinate)) → AllFit (map drawn a) → AllFit (map drawn b) → length (map drawn a) < 18446744073709551616 → length (map drawn b) < 18446744073709551616 → printed a ≡ printed b → map drawn a ≡ map drawn b
+pub printed-apart : (a b : List (Outline Point)) → AllFit (map drawn a) → AllFit (map drawn b) → length (map drawn a) < 18446744073709551616 → length (map drawn b) < 18446744073709551616 → printed a ≡ printed b → map drawn a ≡ map drawn b
 unfolding printed
 printed-apart a b h k x y e = drawing-apart (map drawn a) (map drawn b) h k x y e
 

@@ -71,8 +71,7 @@ module _ {out₀ : List ℕ} {at : ℕ} {whole out : List ℕ} {place : ℕ} {re
       let n : length rest ≡ 0 = ap length e in
       record { stored = sym f ∙ g .stored; next = omega (arith, g .next, g .told) }
 
--- ---- a number by its bits
+-- ---- a word by its digits
 
-pub sixteen : (out : List ℕ) (at w v : ℕ) → w ≡ v → (out₁ : List ℕ) → out₁ ≡ sets out at (hex w) → (p : ℕ) → p ≡ min (at + 16) 18446744073709551615 → Put out at (hex v) out₁ p
-sixteen out at w v e out₁ s p n =
-    record { stored = s ∙ ap (λ (x : ℕ). sets out at (hex x)) e; next = n ∙ ap (λ (k : ℕ). min (at + k) 18446744073709551615) (sym (digits-length 16 16 v)) }
+pub sixteen : (out : List ℕ) (at w : ℕ) (out₁ : List ℕ) → out₁ ≡ sets out at (hex w) → (p : ℕ) → p ≡ min (at + 16) 18446744073709551615 → Put out at (hex w) out₁ p
+sixteen out at w out₁ s p n = record { stored = s; next = n ∙ ap (λ (k : ℕ). min (at + k) 18446744073709551615) (sym (digits-length 16 16 w)) }

@@ -8,18 +8,17 @@ use native.Mathlib.Omega.{arith}
 use lib.Dec.{ltb}
 use lib.ListN.{length, length-append, length-map}
 use Rattle.refusals.specs.declared.Refusal.{Refusal}
-use Rattle.numbers.specs.declared.Coordinate.{Coordinate}
+use Rattle.numbers.specs.declared.Point.{Point}
 use Rattle.text.specs.Quoted.{quoted}
 use Rattle.text.specs.Digits.{places, decimal}
 use Rattle.text.proofs.Writing.{digits-length}
 use Rattle.contours.specs.Outline.{Outline, cornerCount, holeCount}
 use Rattle.contours.proofs.Lists.{All}
 use Rattle.contours.proofs.Nesting.{ParentIn, Numbers}
-use Rattle.sheet.specs.declared.edges.Corner.{Corner}
 use Rattle.sheet.specs.Sheet.{countLine}
 use Rattle.sheet.proofs.Fronts.{decimal-most}
 use Rattle.sheet.proofs.Lengths.{line-short, number-long}
-use Rattle.printing.specs.Printing.{parentBytes, headLine, holeLines, cornerLine, cornerLines, contourLines, contoursLines, drawing, bitsOf, drawn, printed, refusalLine}
+use Rattle.printing.specs.Printing.{parentBytes, headLine, holeLines, cornerLine, cornerLines, contourLines, contoursLines, drawing, drawn, printed, refusalLine}
 
 -- ---- lines
 
@@ -38,21 +37,20 @@ unfolding holeLines
 holes-short n [] a k = omega arith
 holes-short n (h ∷ l) a k = simp length-append (omega (arith, line-short [] 3 h (omega (arith, a .0)), holes-short n l (a .1) k))
 
-corners-long : (l : List Corner) → length (cornerLines l) ≡ 34 * length l
+corners-long : (l : List Point) → length (cornerLines l) ≡ 34 * length l
 unfolding cornerLines cornerLine
 corners-long [] = omega arith
 corners-long (p ∷ l) = simp length-append (omega (arith, digits-length 16 16 (p .x), number-long (p .y), corners-long l))
 
 -- ---- contours
 
-contour-short : (n : ℕ) (o : Outline Coordinate) → Numbers n o → n ≤ 10 ^ 4 → length (o .holes) < 10 ^ 4 → length (o .corners) < 10 ^ 4
+contour-short : (n : ℕ) (o : Outline Point) → Numbers n o → n ≤ 10 ^ 4 → length (o .holes) < 10 ^ 4 → length (o .corners) < 10 ^ 4
     → length (contourLines (drawn o)) ≤ 46 + (5 * length (o .holes) + 34 * length (o .corners))
 unfolding contourLines drawn quoted
 contour-short n o h k few short =
-    let many : length (map bitsOf (o .corners)) ≡ length (o .corners) = length-map (o .corners) bitsOf in
-    simp length-append (omega (arith, many, head-short n (o .parent) (o .depth) (h .parent) (h .depth) k, line-short (quoted "holes ") 3 (length (o .holes)) few, holes-short n (o .holes) (h .holes) k, line-short (quoted "points ") 3 (length (map bitsOf (o .corners))) (omega arith), corners-long (map bitsOf (o .corners))))
+    simp length-append (omega (arith, head-short n (o .parent) (o .depth) (h .parent) (h .depth) k, line-short (quoted "holes ") 3 (length (o .holes)) few, holes-short n (o .holes) (h .holes) k, line-short (quoted "points ") 3 (length (o .corners)) short, corners-long (o .corners)))
 
-contours-short : (n : ℕ) (os : List (Outline Coordinate)) → All (Numbers n) os → n ≤ 10 ^ 4 → holeCount os < 10 ^ 4 → cornerCount os < 10 ^ 4
+contours-short : (n : ℕ) (os : List (Outline Point)) → All (Numbers n) os → n ≤ 10 ^ 4 → holeCount os < 10 ^ 4 → cornerCount os < 10 ^ 4
     → length (contoursLines (map drawn os)) ≤ 46 * length os + (5 * holeCount os + 34 * cornerCount os)
 unfolding contoursLines holeCount cornerCount
 contours-short n [] h k few short = omega arith
@@ -60,7 +58,7 @@ contours-short n (o ∷ os) h k few short =
     simp length-append (omega (arith, contour-short n o (h .0) k (omega arith) (omega arith), contours-short n os (h .1) k (omega arith) (omega arith)))
 
 -- The whole text.
-pub printed-short : (os : List (Outline Coordinate)) → All (Numbers (length os)) os → length os < 10 ^ 4 → holeCount os < 10 ^ 4 → cornerCount os < 10 ^ 4
+pub printed-short : (os : List (Outline Point)) → All (Numbers (length os)) os → length os < 10 ^ 4 → holeCount os < 10 ^ 4 → cornerCount os < 10 ^ 4
     → length (printed os) ≤ 14 + (46 * length os + (5 * holeCount os + 34 * cornerCount os))
 unfolding printed drawing quoted
 printed-short os h k few short =

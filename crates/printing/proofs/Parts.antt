@@ -6,16 +6,15 @@ use native.Mathlib.Nat.{add-zero, sub-zero}
 use native.Mathlib.Decide.{decLt}
 use native.Mathlib.Omega.{arith}
 use borrow.Author.Tests.{lt-ltb, le-ltb}
-use lib.Ieee.{Float}
 use lib.ListN.{length, getD, take, drop, length-take, length-drop, length-map, drop-of-length-le}
 use lib.Seq.{drop-cons, take-all}
 use Rattle.text.specs.Quoted.{quoted}
 use Rattle.sheet.specs.Sheet.{countLine}
-use Rattle.numbers.specs.declared.Coordinate.{Coordinate}
+use Rattle.numbers.specs.declared.Point.{Point}
 use Rattle.view.specs.declared.Corner.the-variants.{At, Nothing}
 use Rattle.view.specs.View.{partOf, pointAt, cornerAt}
 use Rattle.view.proofs.Parts.{found-within, none-beyond}
-use Rattle.printing.specs.Printing.{Drawn, bitsOf, headLine, holeLines, cornerLine, cornerLines, contourLines, contoursLines, drawing}
+use Rattle.printing.specs.Printing.{Drawn, headLine, holeLines, cornerLine, cornerLines, contourLines, contoursLines, drawing}
 use Rattle.printing.specs.Arrays.{partLength, part, cornerOf, parentOf, drawnRow, printedArrays}
 use Rattle.printing.specs.Put.{Put}
 use Rattle.printing.proofs.Goings.{kept, then}
@@ -44,9 +43,9 @@ module _ (holes : List ℕ) (first n i : ℕ) where
   unfolding holeLines
   hole-end h = rw (part-end 0 holes first n i h)
 
-module _ (corners : List (List Float)) (i : ℕ) where
-  pub corner-on : (p : Coordinate) → cornerAt corners i ≡ At p → cornerLines (map cornerOf (drop i corners)) ≡ cornerLine (bitsOf p) ++ cornerLines (map cornerOf (drop (i + 1) corners))
-  unfolding cornerLines cornerOf pointAt bitsOf
+module _ (corners : List (List ℕ)) (i : ℕ) where
+  pub corner-on : (p : Point) → cornerAt corners i ≡ At p → cornerLines (map cornerOf (drop i corners)) ≡ cornerLine p ++ cornerLines (map cornerOf (drop (i + 1) corners))
+  unfolding cornerLines cornerOf pointAt
   corner-on p e =
       let h = found-within corners i p e in
       let q : i + 1 ≡ suc i = omega arith in
@@ -85,7 +84,7 @@ part-count l first count =
 
 -- ---- a contour's pieces
 
-module _ {out₀ : List ℕ} {at : ℕ} (corners : List (List Float)) (holes row : List ℕ) (room : length out₀ ≤ 18446744073709551615) (n k : ℕ) (shown : List (List Float)) (hn : n ≡ partLength (length holes) (getD row 4 0) (getD row 5 0)) (hs : shown ≡ partOf corners (getD row 0 0) (getD row 1 0)) (hk : k ≡ length shown) where
+module _ {out₀ : List ℕ} {at : ℕ} (corners : List (List ℕ)) (holes row : List ℕ) (room : length out₀ ≤ 18446744073709551615) (n k : ℕ) (shown : List (List ℕ)) (hn : n ≡ partLength (length holes) (getD row 4 0) (getD row 5 0)) (hs : shown ≡ partOf corners (getD row 0 0) (getD row 1 0)) (hk : k ≡ length shown) where
   pub contour-put : {out₁ : List ℕ} {p₁ : ℕ} {out₂ : List ℕ} {p₂ : ℕ} {out₃ : List ℕ} {p₃ : ℕ} {out₄ : List ℕ} {p₄ : ℕ} {out₅ : List ℕ} {p₅ : ℕ} → Put out₀ at (headLine (parentOf (getD row 2 0)) (getD row 3 0)) out₁ p₁ → Put out₁ p₁ (countLine (quoted "holes ") n) out₂ p₂ → Put out₂ p₂ (holeLines (take n (drop (getD row 4 0) holes))) out₃ p₃ → Put out₃ p₃ (countLine (quoted "points ") k) out₄ p₄ → Put out₄ p₄ (cornerLines (map cornerOf shown)) out₅ p₅ → Put out₀ at (contourLines (drawnRow corners holes row)) out₅ p₅
   unfolding contourLines drawnRow part
   contour-put {out₁} {p₁} {out₂} {p₂} {out₃} {p₃} {out₄} {p₄} {out₅} {p₅} a b c d e =
@@ -121,7 +120,7 @@ limited l count n h = go (decLt (length l) count)
     go (yes k) = take-all count l (omega arith) ∙ sym (take-all n l (omega arith))
     go (no k) = let q : count ≡ n = omega arith in ap (λ (m : ℕ). take m l) q
 
-pub drawing-put : {out₀ : List ℕ} (corners : List (List Float)) (contours : List (List ℕ)) (holes : List ℕ) (count n : ℕ) → length out₀ ≤ 18446744073709551615 → n ≡ min count (length contours) → {out₁ : List ℕ} {p₁ : ℕ} {out₂ : List ℕ} {p₂ : ℕ} → Put out₀ 0 (countLine (quoted "contours ") n) out₁ p₁ → Put out₁ p₁ (contoursLines (map (drawnRow corners holes) (take n contours))) out₂ p₂ → Put out₀ 0 (printedArrays corners contours holes count) out₂ p₂
+pub drawing-put : {out₀ : List ℕ} (corners : List (List ℕ)) (contours : List (List ℕ)) (holes : List ℕ) (count n : ℕ) → length out₀ ≤ 18446744073709551615 → n ≡ min count (length contours) → {out₁ : List ℕ} {p₁ : ℕ} {out₂ : List ℕ} {p₂ : ℕ} → Put out₀ 0 (countLine (quoted "contours ") n) out₁ p₁ → Put out₁ p₁ (contoursLines (map (drawnRow corners holes) (take n contours))) out₂ p₂ → Put out₀ 0 (printedArrays corners contours holes count) out₂ p₂
 unfolding printedArrays drawing
 drawing-put corners contours holes count n room h a b =
     let same : take count contours ≡ take n contours = limited contours count n h in

@@ -6,11 +6,9 @@ use mathlib.Core.List.{List, [], _∷_, _++_, map}
 use Prim.Native.Nat.{ℕ, zero, suc, _+_}
 use lib.Dec.{ltb}
 use lib.ListN.{length, getD, take, drop}
-use lib.Ieee.{Float, nan, binary64, toBits}
-use Rattle.numbers.specs.declared.Coordinate.{Coordinate}
+use Rattle.numbers.specs.declared.Point.{Point}
 use Rattle.contours.specs.Outline.{Outline}
 use Rattle.view.specs.View.{partOf}
-use Rattle.sheet.specs.declared.edges.Corner.{Corner}
 use Rattle.printing.specs.Printing.{Drawn, drawing}
 
 -- how many of the count holes from a place on are within their array
@@ -20,14 +18,14 @@ partLength length first count = cond (ltb length (first + count)) 0 count
 unfoldable pub part : List ℕ → ℕ → ℕ → List ℕ
 part l first count = take (partLength (length l) first count) (drop first l)
 
-unfoldable pub cornerOf : List Float → Corner
-cornerOf p = record { x = toBits binary64 (getD p 0 nan); y = toBits binary64 (getD p 1 nan) }
+unfoldable pub cornerOf : List ℕ → Point
+cornerOf p = record { x = getD p 0 0; y = getD p 1 0 }
 
 unfoldable pub parentOf : ℕ → Option ℕ
 parentOf zero = none
 parentOf (suc p) = some p
 
-unfoldable pub drawnRow : List (List Float) → List ℕ → List ℕ → Drawn
+unfoldable pub drawnRow : List (List ℕ) → List ℕ → List ℕ → Drawn
 drawnRow corners holes row =
     record {
       parent = parentOf (getD row 2 0);
@@ -37,7 +35,7 @@ drawnRow corners holes row =
     }
 
 -- the text of the first count contours
-unfoldable pub printedArrays : List (List Float) → List (List ℕ) → List ℕ → ℕ → List ℕ
+unfoldable pub printedArrays : List (List ℕ) → List (List ℕ) → List ℕ → ℕ → List ℕ
 printedArrays corners contours holes count = drawing (map (drawnRow corners holes) (take count contours))
 
 -- ---- arrays as connection writes them: corners one after the other, and so holes
@@ -46,19 +44,19 @@ unfoldable pub numberOf : Option ℕ → ℕ
 numberOf none = 0
 numberOf (some p) = suc p
 
-unfoldable pub rowsFrom : (corner hole : ℕ) → List (Outline Coordinate) → List (List ℕ)
+unfoldable pub rowsFrom : (corner hole : ℕ) → List (Outline Point) → List (List ℕ)
 rowsFrom c h [] = []
 rowsFrom c h (o ∷ os) =
     (c ∷ (c + length (o .corners)) ∷ numberOf (o .parent) ∷ o .depth ∷ h ∷ length (o .holes) ∷ [])
     ∷ rowsFrom (c + length (o .corners)) (h + length (o .holes)) os
 
-unfoldable pub numbersOf : Coordinate → List Float
+unfoldable pub numbersOf : Point → List ℕ
 numbersOf p = p .x ∷ p .y ∷ []
 
-unfoldable pub allCorners : List (Outline Coordinate) → List (List Float)
+unfoldable pub allCorners : List (Outline Point) → List (List ℕ)
 allCorners [] = []
 allCorners (o ∷ os) = map numbersOf (o .corners) ++ allCorners os
 
-unfoldable pub allHoles : List (Outline Coordinate) → List ℕ
+unfoldable pub allHoles : List (Outline Point) → List ℕ
 allHoles [] = []
 allHoles (o ∷ os) = o .holes ++ allHoles os

@@ -3,7 +3,7 @@ use mathlib.Core.Option.{Option, none, some}
 use mathlib.Core.List.{List, [], _∷_}
 use Prim.Native.Nat.{ℕ, _<_}
 use lib.ListN.{length}
-use Rattle.sheet.specs.declared.edges.Corner.{Corner}
+use Rattle.numbers.specs.declared.Point.{Point}
 use Rattle.sheet.specs.Sheet.{CornerFits}
 use Rattle.printing.specs.Printing.{Drawn}
 
@@ -15,7 +15,7 @@ abbrev pub NumbersFit : List ℕ → Type 0
 NumbersFit [] = Unit {0}
 NumbersFit (n ∷ l) = (n < 18446744073709551616) × NumbersFit l
 
-abbrev pub CornersFit : List Corner → Type 0
+abbrev pub CornersFit : List Point → Type 0
 CornersFit [] = Unit {0}
 CornersFit (p ∷ l) = CornerFits p × CornersFit l
 

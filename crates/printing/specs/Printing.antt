@@ -3,21 +3,19 @@ use mathlib.Core.Option.{Option, none, some}
 use mathlib.Core.List.{List, [], _∷_, _++_, map}
 use Prim.Native.Nat.{ℕ}
 use lib.ListN.{length}
-use lib.Ieee.{binary64, toBits}
 use Rattle.refusals.specs.declared.Refusal.{Refusal}
-use Rattle.numbers.specs.declared.Coordinate.{Coordinate}
+use Rattle.numbers.specs.declared.Point.{Point}
 use Rattle.text.specs.Digits.{decimal, hex}
 use Rattle.text.specs.Quoted.{quoted}
 use Rattle.contours.specs.Outline.{Outline}
-use Rattle.sheet.specs.declared.edges.Corner.{Corner}
 use Rattle.sheet.specs.Sheet.{countLine, numberBytes}
 
--- what is told of a contour, its corners by the bits of their numbers
+-- what is told of a contour, its corners as they stand
 pub record Drawn : Type 0 where
   pub parent : Option ℕ
   pub depth : ℕ
   pub holes : List ℕ
-  pub corners : List Corner
+  pub corners : List Point
 
 -- ---- its lines
 
@@ -33,10 +31,10 @@ unfoldable pub holeLines : List ℕ → List ℕ
 holeLines [] = []
 holeLines (h ∷ l) = countLine [] h ++ holeLines l
 
-unfoldable pub cornerLine : Corner → List ℕ
+unfoldable pub cornerLine : Point → List ℕ
 cornerLine p = hex (p .x) ++ (numberBytes (p .y) ++ (10 ∷ []))
 
-unfoldable pub cornerLines : List Corner → List ℕ
+unfoldable pub cornerLines : List Point → List ℕ
 cornerLines [] = []
 cornerLines (p ∷ l) = cornerLine p ++ cornerLines l
 
@@ -54,13 +52,10 @@ drawing l = countLine (quoted "contours ") (length l) ++ contoursLines l
 
 -- ---- of connection's contours
 
-unfoldable pub bitsOf : Coordinate → Corner
-bitsOf p = record { x = toBits binary64 (p .x); y = toBits binary64 (p .y) }
+unfoldable pub drawn : Outline Point → Drawn
+drawn o = record { parent = o .parent; depth = o .depth; holes = o .holes; corners = o .corners }
 
-unfoldable pub drawn : Outline Coordinate → Drawn
-drawn o = record { parent = o .parent; depth = o .depth; holes = o .holes; corners = map bitsOf (o .corners) }
-
-unfoldable pub printed : List (Outline Coordinate) → List ℕ
+unfoldable pub printed : List (Outline Point) → List ℕ
 printed os = drawing (map drawn os)
 
 -- ---- a refusal, and nothing else

@@ -21,7 +21,7 @@ use refusals::Refusal;
 fn all_lines(
     out: &mut [u8],
     at: usize,
-    corners: &[[f64; 2]],
+    corners: &[[u64; 2]],
     contours: &[[u32; 6]],
     holes: &[u32],
     n: u32,
@@ -50,7 +50,7 @@ fn at_most(count: u32, length: usize) -> u32
 }
 
 pub fn print_contours(
-    corners: &[[f64; 2]],
+    corners: &[[u64; 2]],
     contours: &[[u32; 6]],
     holes: &[u32],
     count: u32,

@@ -2,7 +2,6 @@
 ghost use mathlib.Core.List.{map};
 ghost use mathlib.Core.Path.{_≡_};
 ghost use Prim.Native.Nat.{_-_, _≤_};
-ghost use lib.Ieee.{binary64, toBits};
 ghost use lib.ListN.{length, take, drop};
 ghost use Rattle.printing.specs.Printing.{parentBytes, headLine, holeLines, cornerLine, cornerLines, contourLines};
 ghost use Rattle.printing.specs.Arrays.{partLength, cornerOf, parentOf, drawnRow};
@@ -11,6 +10,7 @@ use crate::puts::bits;
 use crate::puts::line;
 use crate::puts::number;
 use crate::puts::text;
+use crate::puts::word;
 use view::Corner;
 use view::corner_shown;
 use view::count_shown;
@@ -34,12 +34,11 @@ fn head_line(out: &mut [u8], at: usize, parent: u32, depth: u32) -> usize
     line(out, end, b" depth ", depth as u64)
 }
 
-fn corner_line(out: &mut [u8], at: usize, x: f64, y: f64) -> usize
-    ensures { λ r. ⌜ Put (now (out .entry)) at (cornerLine (record { x = toBits binary64 x; y = toBits binary64 y })) (now (out .exit)) r ⌝ }
+fn corner_line(out: &mut [u8], at: usize, x: u64, y: u64) -> usize
+    ensures { λ r. ⌜ Put (now (out .entry)) at (cornerLine (record { x = x; y = y })) (now (out .exit)) r ⌝ }
 {
-    let space = bits(out, at, x);
-    let second = text(out, space, b" ");
-    let end = bits(out, second, y);
+    let second = bits(out, at, x);
+    let end = word(out, second, y);
     text(out, end, b"\n")
 }
 
@@ -59,7 +58,7 @@ fn hole_lines(out: &mut [u8], at: usize, holes: &[u32], first: u32, n: u32) -> u
 }
 
 // The corners of a contour, one a line.
-fn corner_lines(out: &mut [u8], at: usize, corners: &[[f64; 2]]) -> usize
+fn corner_lines(out: &mut [u8], at: usize, corners: &[[u64; 2]]) -> usize
     ensures { λ r. ⌜ Put (now (out .entry)) at (cornerLines (map cornerOf (now (corners .entry)))) (now (out .exit)) r ⌝ }
 {
     let mut place = at;
@@ -88,7 +87,7 @@ fn part_length(length: usize, first: u32, count: u32) -> u32
 pub fn contour_lines(
     out: &mut [u8],
     at: usize,
-    corners: &[[f64; 2]],
+    corners: &[[u64; 2]],
     holes: &[u32],
     row: [u32; 6],
 ) -> usize

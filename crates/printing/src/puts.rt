@@ -1,9 +1,7 @@
 // Words and numbers put one after the other. Each answers the place after what it put, whether it fitted or not.
-ghost use lib.Ieee.{binary64, toBits};
 ghost use Rattle.text.specs.Digits.{decimal, hex};
 ghost use Rattle.sheet.specs.Sheet.{countLine, numberBytes};
 ghost use Rattle.printing.specs.Put.{Put};
-use text::bits::bits_of;
 use text::digits::HEX_DIGITS;
 use text::digits::put_decimal;
 use text::digits::put_hex;
@@ -27,21 +25,20 @@ pub fn number(out: &mut [u8], at: usize, n: u64) -> usize
     after(at, digits, MOST)
 }
 
-// A number by its bits.
-pub fn bits(out: &mut [u8], at: usize, x: f64) -> usize
-    ensures { λ r. ⌜ Put (now (out .entry)) at (hex (toBits binary64 x)) (now (out .exit)) r ⌝ }
+// The hex digits of a 64-bit word.
+pub fn bits(out: &mut [u8], at: usize, w: u64) -> usize
+    ensures { λ r. ⌜ Put (now (out .entry)) at (hex w) (now (out .exit)) r ⌝ }
 {
-    put_hex(out, at, bits_of(x));
+    put_hex(out, at, w);
     after(at, HEX_DIGITS, MOST)
 }
 
-// A space and the hex digits of a 64-bit word.
+// .. behind a space.
 pub fn word(out: &mut [u8], at: usize, w: u64) -> usize
     ensures { λ r. ⌜ Put (now (out .entry)) at (numberBytes w) (now (out .exit)) r ⌝ }
 {
     let digits = text(out, at, b" ");
-    put_hex(out, digits, w);
-    after(digits, HEX_DIGITS, MOST)
+    bits(out, digits, w)
 }
 
 // A word, a number and the line feed.

@@ -5,7 +5,7 @@ use mathlib.Core.List.{[], _∷_}
 use Prim.Native.Nat.{ℕ, _+_}
 use native.Mathlib.Omega.{arith}
 use Rattle.refusals.specs.declared.Refusal.{Refusal}
-use Rattle.numbers.specs.declared.Coordinate.{Coordinate}
+use Rattle.numbers.specs.declared.Point.{Point}
 use Rattle.events.specs.Event.{Event}
 use Rattle.events.specs.Binary64.{atBinary64}
 use Rattle.events.specs.Store.{look}
@@ -34,15 +34,10 @@ not-done : (a : Division) (d : Divided) (x : Refusal) → a ≡ Done d → a ≡
 not-done a d x p q = let z : _≡_ {A = ℕ} 0 1 = cc in omega arith
 
 -- a record and its partner that pass are a segment, once one of them is left
-segment : (row : ℕ → Event Coordinate) (n i : ℕ) → row i .left ≡ true → Pair atBinary64 row n i → Segment atBinary64 row n i
+segment : (row : ℕ → Event Point) (n i : ℕ) → row i .left ≡ true → Pair atBinary64 row n i → Segment row n i
 segment row n i left both =
     let own = both .own in
-    record {
-      paired = record { own = own .inside; other = own .partner; back = own .paired };
-      right = rw left at (own .unlike);
-      fit = own .fit;
-      fit-other = both .other .fit;
-    }
+    record { paired = record { own = own .inside; other = own .partner; back = own .paired }; right = rw left at (own .unlike) }
 
 module _ (p : Pool) (used i : ℕ) where
   -- what passing gives, of the records that division reads
@@ -55,10 +50,10 @@ module _ (p : Pool) (used i : ℕ) where
       by false o e =
           let w = within p used false (sym o) refl in
           let both = clear-named (inUse p used) (i ∷ []) e .both 0 (omega arith) in
-          subst (λ (n : ℕ). Pair atBinary64 (look stored p used) n i) (size-in-use p used w) (subst (λ (row : ℕ → Event Coordinate). Pair atBinary64 row (size (inUse p used)) i) (seen p used w) both)
+          subst (λ (n : ℕ). Pair atBinary64 (look stored p used) n i) (size-in-use p used w) (subst (λ (row : ℕ → Event Point). Pair atBinary64 row (size (inUse p used)) i) (seen p used w) both)
 
-module _ (p : Pool) (used i : ℕ) (cut : Coordinate) where
-  abbrev row : ℕ → Event Coordinate
+module _ (p : Pool) (used i : ℕ) (cut : Point) where
+  abbrev row : ℕ → Event Point
   row = look stored p used
 
   abbrev after : After Pool

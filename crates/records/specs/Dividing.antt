@@ -2,7 +2,7 @@
 -- A call that the checks refuse leaves the pool as it was lent.
 use mathlib.Core.List.{[], _∷_}
 use Prim.Native.Nat.{ℕ}
-use Rattle.numbers.specs.declared.Coordinate.{Coordinate}
+use Rattle.numbers.specs.declared.Point.{Point}
 use Rattle.events.specs.Binary64.{atBinary64, inMode}
 use Rattle.events.specs.Pool.{Pool, stored}
 use Rattle.checks.specs.declared.Check.{Check}
@@ -21,7 +21,7 @@ abbrev pub dividedBy : Check → Pool → After Pool → Outcome Division
 dividedBy (Refused x) lent done = outcome (NotDivided x) lent
 dividedBy Passed lent done = outcome (done .answer) (done .store)
 
-unfoldable pub divideSegment : Pool → ℕ → ℕ → Coordinate → Outcome Division
+unfoldable pub divideSegment : Pool → ℕ → ℕ → Point → Outcome Division
 divideSegment p used i cut = dividedBy (checkedIn p used (i ∷ [])) p (divide atBinary64 stored p used i cut)
 
 -- ---- two left records, in a mode of crossing

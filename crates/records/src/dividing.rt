@@ -10,15 +10,15 @@ use checks::Check;
 use division::Division;
 use neighbours::Met;
 use neighbours::Neighbours;
-use numbers::Coordinate;
+use numbers::Point;
 
 // Divides the segment of left record i at a cut, where the first `used` places are in use.
 pub fn divide_segment(
-    points: &mut [[f64; 2]],
+    points: &mut [[u64; 2]],
     marks: &mut [[u32; 12]],
     used: u32,
     i: u32,
-    cut: Coordinate,
+    cut: Point,
 ) -> Division
     ensures { λ r. ⌜ outcome r (pool (now (points .exit)) (now (marks .exit))) ≡ divideSegment (pool (now (points .entry)) (now (marks .entry))) used i cut ⌝ }
 {
@@ -30,7 +30,7 @@ pub fn divide_segment(
 
 // Cuts the segments of two left records where they cross or overlap.
 pub fn possible_intersection(
-    points: &mut [[f64; 2]],
+    points: &mut [[u64; 2]],
     marks: &mut [[u32; 12]],
     used: u32,
     a: u32,

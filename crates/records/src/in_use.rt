@@ -13,7 +13,7 @@ use refusals::Refusal;
 use refusals::SIZE;
 
 // Refusal 1: the arrays, or more places in use than there are.
-fn is_overused(points: &[[f64; 2]], marks: &[[u32; 12]], used: u32) -> bool
+fn is_overused(points: &[[u64; 2]], marks: &[[u32; 12]], used: u32) -> bool
     ensures { λ r. ⌜ r ≡ overused (pool (now (points .entry)) (now (marks .entry))) used ⌝ }
 {
     if pool_refused(points, marks) {
@@ -32,7 +32,7 @@ fn size_refused() -> Check
 }
 
 // For an entry that names one record.
-pub fn check_one_in(points: &[[f64; 2]], marks: &[[u32; 12]], used: u32, a: u32) -> Check
+pub fn check_one_in(points: &[[u64; 2]], marks: &[[u32; 12]], used: u32, a: u32) -> Check
     ensures { λ r. ⌜ r ≡ checkedIn (pool (now (points .entry)) (now (marks .entry))) used (a ∷ []) ⌝ }
 {
     if is_overused(points, marks, used) {
@@ -44,7 +44,7 @@ pub fn check_one_in(points: &[[f64; 2]], marks: &[[u32; 12]], used: u32, a: u32)
 
 // For an entry that names two records and wants both left.
 pub fn check_left_two_in(
-    points: &[[f64; 2]],
+    points: &[[u64; 2]],
     marks: &[[u32; 12]],
     used: u32,
     a: u32,

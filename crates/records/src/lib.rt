@@ -24,7 +24,7 @@ pub enum Before {
 }
 
 // Whether record a comes before record b in event order; both ways for a tie.
-pub fn is_before(points: &[[f64; 2]], marks: &[[u32; 12]], a: u32, b: u32) -> Before
+pub fn is_before(points: &[[u64; 2]], marks: &[[u32; 12]], a: u32, b: u32) -> Before
     ensures { λ r. ⌜ r ≡ isBefore (pool (now (points .entry)) (now (marks .entry))) a b ⌝ }
 {
     match check_two(points, marks, a, b) {
@@ -40,7 +40,7 @@ pub enum Compared {
 
 // Where the segment of left record a stands to that of left record b.
 pub fn compare_segments(
-    points: &[[f64; 2]],
+    points: &[[u64; 2]],
     marks: &[[u32; 12]],
     a: u32,
     b: u32,
@@ -60,7 +60,7 @@ pub enum Computed {
 }
 
 // The left record e, then the lower neighbour where there is one.
-fn check_with(points: &[[f64; 2]], marks: &[[u32; 12]], e: u32, lower: Link) -> Check
+fn check_with(points: &[[u64; 2]], marks: &[[u32; 12]], e: u32, lower: Link) -> Check
     ensures { λ r. ⌜ r ≡ checkedLeftNamed (pool (now (points .entry)) (now (marks .entry))) (namedWith e lower) ⌝ }
 {
     match lower {
@@ -71,7 +71,7 @@ fn check_with(points: &[[f64; 2]], marks: &[[u32; 12]], e: u32, lower: Link) -> 
 
 // The class of left record e above the left record that `lower` names, stored.
 pub fn compute_fields(
-    points: &mut [[f64; 2]],
+    points: &mut [[u64; 2]],
     marks: &mut [[u32; 12]],
     e: u32,
     lower: Link,

@@ -1,4 +1,5 @@
 // The cases. Where a case does not say otherwise, the pool has six places, a is record 0 and b record 2; 1 and 3 are their partners.
+use crate::bits::*;
 use crate::pools;
 use crate::pools::At;
 use crate::pools::BELOW;
@@ -11,37 +12,12 @@ use crate::pools::Y;
 use crate::told;
 use events::Link;
 
-const NAN: u64 = 0x7ff8_0000_0000_0000;
-
-const INFINITY: u64 = 0x7ff0_0000_0000_0000;
-
-const MINUS_INFINITY: u64 = 0xfff0_0000_0000_0000;
-
-// 2^100, and the next number.
-const LIMIT: u64 = 0x4630_0000_0000_0000;
-
-const ABOVE: u64 = 0x4630_0000_0000_0001;
-
-const MINUS_LIMIT: u64 = 0xc630_0000_0000_0000;
-
-const MINUS_ABOVE: u64 = 0xc630_0000_0000_0001;
-
-const ZERO: u64 = 0;
-
-const MINUS_ZERO: u64 = 0x8000_0000_0000_0000;
-
-const ONE: u64 = 0x3ff0_0000_0000_0000;
-
-const FOUR: u64 = 0x4010_0000_0000_0000;
-
-const FIVE: u64 = 0x4014_0000_0000_0000;
-
 const LAST: u32 = 0xffff_ffff;
 
 const MOST: u64 = 0xffff_ffff;
 
 // The entries on the first places of both arrays.
-fn lend(points: &mut [[f64; 2]], marks: &mut [[u32; 12]], n: usize, m: usize, a: u32, b: Link) {
+fn lend(points: &mut [[u64; 2]], marks: &mut [[u32; 12]], n: usize, m: usize, a: u32, b: Link) {
     if n <= points.len() && m <= marks.len() {
         told::entries(&mut points[..n], &mut marks[..m], a, b);
     }
@@ -84,15 +60,20 @@ pub fn sizes_and_coordinates() {
     sized(b"4,097 places", 4097, 4097, NOWHERE);
     sized(b"marks shorter", 6, 5, NOWHERE);
     sized(b"points shorter", 5, 6, NOWHERE);
-    sized(b"marks shorter, not a number at a", 6, 5, At(0, X, NAN));
+    sized(
+        b"marks shorter, not a number at a",
+        6,
+        5,
+        At(0, X, NEGATIVE),
+    );
     sized(b"no places", 0, 0, NOWHERE);
-    changed(b"not a number at a", At(0, X, NAN), NOWHERE);
+    changed(b"not a number at a", At(0, X, QUIET), NOWHERE);
     changed(b"infinite at a's partner", At(1, Y, INFINITY), NOWHERE);
     changed(b"minus infinite at b", At(2, X, MINUS_INFINITY), NOWHERE);
     changed(b"above 2^100 at b's partner", At(3, Y, ABOVE), NOWHERE);
     changed(b"below -2^100 at a", At(0, X, MINUS_ABOVE), NOWHERE);
     changed(b"-2^100 and 2^100", At(0, X, MINUS_LIMIT), At(1, X, LIMIT));
-    changed(b"not a number at neither", At(4, X, NAN), NOWHERE);
+    changed(b"not a number at neither", At(4, X, SIGNALLING), NOWHERE);
 }
 
 // Refusal 4, whatever is wanted.
@@ -165,7 +146,7 @@ pub fn rights() {
         b"a right, b's partner not a number",
         1,
         2,
-        At(3, X, NAN),
+        At(3, X, NEGATIVE),
         NOWHERE,
     );
 }
@@ -175,7 +156,7 @@ pub fn several() {
     changed(
         b"a's partner another's, b not a number",
         At(0, PARTNER, 3),
-        At(2, X, NAN),
+        At(2, X, SIGNALLING),
     );
     named(
         b"4 at both, a the higher",
@@ -188,8 +169,8 @@ pub fn several() {
         b"2 at both, a the higher",
         2,
         0,
-        At(0, X, NAN),
-        At(3, X, NAN),
+        At(0, X, QUIET),
+        At(3, X, SIGNALLING),
     );
 }
 
@@ -202,6 +183,6 @@ pub fn above_nothing() {
     alone(b"alone, nothing wrong", 0, NOWHERE);
     alone(b"alone, outside", 6, NOWHERE);
     alone(b"alone, right", 1, NOWHERE);
-    alone(b"alone, not a number at the partner", 0, At(1, Y, NAN));
+    alone(b"alone, not a number at the partner", 0, At(1, Y, NEGATIVE));
     alone(b"alone, another's partner outside", 0, At(2, PARTNER, 6));
 }

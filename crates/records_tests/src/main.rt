@@ -1,4 +1,5 @@
 // Every way of 01 in which records are invalid: what the entries on single records tell, and whether all that was lent is as lent.
+mod bits;
 mod cases;
 mod pools;
 mod told;

@@ -1,22 +1,23 @@
-// A pool of six records that nothing is wrong with, the places after them unused, and changes of single numbers in it.
+// A pool of six records that nothing is wrong with, the places after them unused and some not numbers, and changes of single numbers in it.
 ghost use mathlib.Core.Path.{_≡_};
 ghost use lib.ListN.{length};
-use text::bits::bits_of;
-use text::bits::number_of;
+use crate::bits::*;
 
 // One place more than a pool may have.
 pub const PLACES: usize = 4097;
 
 // Three edges, one above the other: records 0 and 1, 2 and 3, 4 and 5.
-pub fn points() -> [[f64; 2]; 4097]
+pub fn points() -> [[u64; 2]; 4097]
     ensures { λ r. ⌜ 4097 ≡ length r ⌝ }
 {
-    let mut points = [[0.0; 2]; 4097];
-    points[1] = [4.0, 0.0];
-    points[2] = [0.0, 1.0];
-    points[3] = [4.0, 1.0];
-    points[4] = [0.0, 2.0];
-    points[5] = [4.0, 2.0];
+    let mut points = [[0; 2]; 4097];
+    points[1] = [FOUR, ZERO];
+    points[2] = [ZERO, ONE];
+    points[3] = [FOUR, ONE];
+    points[4] = [ZERO, TWO];
+    points[5] = [FOUR, TWO];
+    points[6] = [QUIET, SIGNALLING];
+    points[7] = [NEGATIVE, QUIET];
     points
 }
 
@@ -65,7 +66,7 @@ fn set_mark(marks: &mut [[u32; 12]], record: usize, field: usize, value: u32) {
     }
 }
 
-fn set_coordinate(points: &mut [[f64; 2]], record: usize, field: usize, value: f64) {
+fn set_coordinate(points: &mut [[u64; 2]], record: usize, field: usize, value: u64) {
     if record < points.len() {
         let mut p = points[record];
         if field < 2 {
@@ -79,16 +80,16 @@ fn low_bits(value: u64) -> u32 {
     (value % 4_294_967_296) as u32
 }
 
-pub fn change(points: &mut [[f64; 2]], marks: &mut [[u32; 12]], c: At) {
+pub fn change(points: &mut [[u64; 2]], marks: &mut [[u32; 12]], c: At) {
     if c.1 < MARKS {
         set_mark(marks, c.0, c.1, low_bits(c.2));
     } else {
-        set_coordinate(points, c.0, c.1 - MARKS, number_of(c.2));
+        set_coordinate(points, c.0, c.1 - MARKS, c.2);
     }
 }
 
-fn is_same_point(p: [f64; 2], q: [f64; 2]) -> bool {
-    (bits_of(p[0]) == bits_of(q[0])) & (bits_of(p[1]) == bits_of(q[1]))
+fn is_same_point(p: [u64; 2], q: [u64; 2]) -> bool {
+    (p[0] == q[0]) & (p[1] == q[1])
 }
 
 fn is_same_row(m: [u32; 12], n: [u32; 12]) -> bool {
@@ -100,9 +101,9 @@ fn is_same_row(m: [u32; 12], n: [u32; 12]) -> bool {
 
 // Whether the arrays are as they were kept, number by number.
 pub fn is_same(
-    points: &[[f64; 2]; 4097],
+    points: &[[u64; 2]; 4097],
     marks: &[[u32; 12]; 4097],
-    kept_points: &[[f64; 2]; 4097],
+    kept_points: &[[u64; 2]; 4097],
     kept_marks: &[[u32; 12]; 4097],
 ) -> bool {
     let mut same = true;

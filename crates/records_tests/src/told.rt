@@ -19,7 +19,7 @@ fn refused(refusal: Refusal) {
     io::print_decimal(libc::STDOUT_FILENO, refusal.place);
 }
 
-fn before(points: &[[f64; 2]], marks: &[[u32; 12]], a: u32, b: u32) {
+fn before(points: &[[u64; 2]], marks: &[[u32; 12]], a: u32, b: u32) {
     say(b" before ");
     match records::is_before(points, marks, a, b) {
         Before::Refused(refusal) => refused(refusal),
@@ -33,7 +33,7 @@ fn before(points: &[[f64; 2]], marks: &[[u32; 12]], a: u32, b: u32) {
     }
 }
 
-fn segments(points: &[[f64; 2]], marks: &[[u32; 12]], a: u32, b: u32) {
+fn segments(points: &[[u64; 2]], marks: &[[u32; 12]], a: u32, b: u32) {
     say(b", segments ");
     match records::compare_segments(points, marks, a, b, PLAIN) {
         Compared::Refused(refusal) => refused(refusal),
@@ -45,7 +45,7 @@ fn segments(points: &[[f64; 2]], marks: &[[u32; 12]], a: u32, b: u32) {
     }
 }
 
-fn fields(points: &mut [[f64; 2]], marks: &mut [[u32; 12]], e: u32, lower: Link) {
+fn fields(points: &mut [[u64; 2]], marks: &mut [[u32; 12]], e: u32, lower: Link) {
     say(b" fields ");
     match records::compute_fields(points, marks, e, lower, Operation::Union) {
         Computed::Refused(refusal) => refused(refusal),
@@ -54,7 +54,7 @@ fn fields(points: &mut [[f64; 2]], marks: &mut [[u32; 12]], e: u32, lower: Link)
 }
 
 // All three of records a and b, or the class of a above nothing.
-pub fn entries(points: &mut [[f64; 2]], marks: &mut [[u32; 12]], a: u32, b: Link) {
+pub fn entries(points: &mut [[u64; 2]], marks: &mut [[u32; 12]], a: u32, b: Link) {
     if let Link::To(n) = b {
         before(points, marks, a, n);
         segments(points, marks, a, n);

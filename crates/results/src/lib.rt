@@ -9,7 +9,7 @@ use events::pool::number_of_flag;
 use events::pool::read_event;
 
 // The edge of a record is in the result: its left end is.
-pub fn in_result(points: &[[f64; 2]], marks: &[[u32; 12]], r: u32) -> bool
+pub fn in_result(points: &[[u64; 2]], marks: &[[u32; 12]], r: u32) -> bool
     ensures { λ x. ⌜ x ≡ inResult (rowAt (pool (now (points .entry)) (now (marks .entry)))) r ⌝ }
 {
     let e = read_event(points, marks, r);
@@ -21,7 +21,7 @@ pub fn in_result(points: &[[f64; 2]], marks: &[[u32; 12]], r: u32) -> bool
 }
 
 // The left end of an edge in the result: one for each such edge.
-pub fn is_edge(points: &[[f64; 2]], marks: &[[u32; 12]], r: u32) -> bool
+pub fn is_edge(points: &[[u64; 2]], marks: &[[u32; 12]], r: u32) -> bool
     ensures { λ x. ⌜ x ≡ isEdge (rowAt (pool (now (points .entry)) (now (marks .entry)))) r ⌝ }
 {
     let e = read_event(points, marks, r);
@@ -32,7 +32,7 @@ pub fn is_edge(points: &[[f64; 2]], marks: &[[u32; 12]], r: u32) -> bool
 }
 
 // The result events of a list.
-pub fn count_events(points: &[[f64; 2]], marks: &[[u32; 12]], list: &[u32]) -> usize
+pub fn count_events(points: &[[u64; 2]], marks: &[[u32; 12]], list: &[u32]) -> usize
     ensures { λ n. ⌜ n ≡ length (results (rowAt (pool (now (points .entry)) (now (marks .entry)))) (now (list .entry))) ⌝ }
 {
     let mut count = 0;
@@ -45,7 +45,7 @@ pub fn count_events(points: &[[f64; 2]], marks: &[[u32; 12]], list: &[u32]) -> u
 }
 
 // The result edges of a list.
-pub fn count_edges(points: &[[f64; 2]], marks: &[[u32; 12]], list: &[u32]) -> usize
+pub fn count_edges(points: &[[u64; 2]], marks: &[[u32; 12]], list: &[u32]) -> usize
     ensures { λ n. ⌜ n ≡ length (resultEdges (rowAt (pool (now (points .entry)) (now (marks .entry)))) (now (list .entry))) ⌝ }
 {
     let mut count = 0;

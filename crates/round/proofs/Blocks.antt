@@ -1,19 +1,17 @@
 -- Each function of the block against its definition.
-use mathlib.Core.Path.{_≡_, refl, sym, ap, _∙_}
+use mathlib.Core.Path.{_≡_, refl}
 use mathlib.Core.Bool.{Bool, true, false, not, cond}
 use mathlib.Core.List.{List}
 use Prim.Native.Nat.{ℕ, zero, suc, _+_, _-_, _≤_, _<_}
 use native.Mathlib.Numerals.{add-one, sub-one}
 use native.Mathlib.Omega.{arith}
-use borrow.Author.Tests.{not-true, not-false}
-use lib.Ieee.{Float}
-use Rattle.numbers.specs.declared.Coordinate.{Coordinate}
+use Rattle.numbers.specs.declared.Point.{Point}
 use Rattle.events.specs.Coordinates.{same, ahead}
 use Rattle.events.specs.Binary64.{atBinary64}
 use Rattle.rows.specs.Rows.{pointIn}
 use Rattle.round.specs.Block.{blockStart, blockEnd, stands, inOrder}
 
-module _ (at : List (List Float)) (p : Coordinate) where
+module _ (at : List (List ℕ)) (p : Point) where
   -- ---- downwards
 
   start-more : (j : ℕ) → 0 < j → blockStart at p j ≡ cond (same atBinary64 p (pointIn at (j - 1))) (blockStart at p (j - 1)) j
@@ -21,7 +19,7 @@ module _ (at : List (List Float)) (p : Coordinate) where
   start-more zero h = absurd (omega arith)
   start-more (suc j) h = rw sub-one
 
-  module _ (j u : ℕ) (h : 0 < j) (v : blockStart at p j ≡ u) (q : Coordinate) (b : Bool) (e : q ≡ pointIn at (j - 1)) (s : b ≡ same atBinary64 p q) where
+  module _ (j u : ℕ) (h : 0 < j) (v : blockStart at p j ≡ u) (q : Point) (b : Bool) (e : q ≡ pointIn at (j - 1)) (s : b ≡ same atBinary64 p q) where
     pub start-on : b ≡ true → blockStart at p (j - 1) ≡ u
     start-on z = rw (start-more j h, ← e, ← s, z) at v
 
@@ -39,7 +37,7 @@ module _ (at : List (List Float)) (p : Coordinate) where
   unfolding blockEnd
   end-more j e h = let q : e - j ≡ suc (e - (j + 1)) = omega arith in rw (q, add-one)
 
-  module _ (j e u : ℕ) (h : j < e) (v : blockEnd at p j (e - j) ≡ u) (q : Coordinate) (b : Bool) (f : q ≡ pointIn at j) (s : b ≡ same atBinary64 p q) where
+  module _ (j e u : ℕ) (h : j < e) (v : blockEnd at p j (e - j) ≡ u) (q : Point) (b : Bool) (f : q ≡ pointIn at j) (s : b ≡ same atBinary64 p q) where
     pub end-on : b ≡ true → blockEnd at p (j + 1) (e - (j + 1)) ≡ u
     end-on z = rw (end-more j e h, ← f, ← s, z) at v
 
@@ -52,24 +50,18 @@ module _ (at : List (List Float)) (p : Coordinate) where
 
 -- ---- the order of the points
 
-module _ (at : List (List Float)) where
-  pub stands-not : (i : ℕ) (p : Coordinate) (u : Bool) → p ≡ pointIn at i → u ≡ not (atBinary64 .fit p) → u ≡ true → false ≡ stands at i
+module _ (at : List (List ℕ)) where
+  pub stands-first : (i : ℕ) → i ≡ 0 → true ≡ stands at i
   unfolding stands
-  stands-not zero p u e f h = sym (ap (λ (r : Coordinate). atBinary64 .fit r) (sym e) ∙ not-true (atBinary64 .fit p) (sym f ∙ h))
-  stands-not (suc i) p u e f h = rw (← e, not-true (atBinary64 .fit p) (sym f ∙ h))
+  stands-first zero z = refl
+  stands-first (suc i) z = absurd (omega arith)
 
-  pub stands-first : (i : ℕ) (p : Coordinate) (u : Bool) → p ≡ pointIn at i → u ≡ not (atBinary64 .fit p) → u ≡ false → i ≡ 0 → true ≡ stands at i
+  pub stands-next : (i : ℕ) → (i ≡ 0 → ⊥) → (p q : Point) (b : Bool) → p ≡ pointIn at i → q ≡ pointIn at (i - 1) → b ≡ ahead atBinary64 p q → not b ≡ stands at i
   unfolding stands
-  stands-first zero p u e f h z = sym (ap (λ (r : Coordinate). atBinary64 .fit r) (sym e) ∙ not-false (atBinary64 .fit p) (sym f ∙ h))
-  stands-first (suc i) p u e f h z = absurd (omega arith)
-
-  pub stands-next : (i : ℕ) (p : Coordinate) (u : Bool) → p ≡ pointIn at i → u ≡ not (atBinary64 .fit p) → u ≡ false → (i ≡ 0 → ⊥)
-      → (q : Coordinate) (b : Bool) → q ≡ pointIn at (i - 1) → b ≡ ahead atBinary64 p q → not b ≡ stands at i
-  unfolding stands
-  stands-next zero p u e f h z q b g k = absurd (z refl)
-  stands-next (suc i) p u e f h z q b g k =
+  stands-next zero z p q b e g k = absurd (z refl)
+  stands-next (suc i) z p q b e g k =
       let g′ : q ≡ pointIn at i = rw sub-one at g in
-      rw (← e, not-false (atBinary64 .fit p) (sym f ∙ h), ← g′, ← k)
+      rw (← e, ← g′, ← k)
 
   order-more : (i n : ℕ) → i < n → inOrder at i (n - i) ≡ cond (stands at i) (inOrder at (i + 1) (n - (i + 1))) false
   unfolding inOrder

@@ -6,13 +6,12 @@ use Prim.Native.Nat.{ℕ, zero, suc, _+_, _-_, _≤_, _<_}
 use native.Mathlib.Nat.{add-zero, zero-add}
 use native.Mathlib.Decide.{decLt}
 use native.Mathlib.Omega.{arith}
-use borrow.Author.Tests.{le-ltb, lt-ltb, not-false}
+use borrow.Author.Tests.{le-ltb, lt-ltb, not-true, not-false}
 use lib.Dec.{ltb}
-use lib.Ieee.{Float}
-use Rattle.numbers.specs.declared.Coordinate.{Coordinate}
+use Rattle.numbers.specs.declared.Point.{Point}
 use Rattle.events.specs.Coordinates.{same, ahead}
 use Rattle.events.specs.Binary64.{atBinary64}
-use Rattle.order.proofs.AtBinary64.{Fine, fine, laws}
+use Rattle.order.proofs.AtBinary64.{laws}
 use Rattle.order.proofs.Laws.{ahead-apart, ahead-ext, ahead-trans}
 use Rattle.checks.specs.Numbers.{numbersFrom}
 use Rattle.contours.specs.Result.{keep}
@@ -91,28 +90,26 @@ module _ (f : ℕ → Bool) where
 -- ---- points, none of which is ahead of another
 
 -- neither is ahead of the other
-one-point : (p q : Coordinate) → Fine p → Fine q → ahead atBinary64 p q ≡ false → ahead atBinary64 q p ≡ false → same atBinary64 p q ≡ true
-unfolding laws
-one-point p q h k a b = go (same atBinary64 p q) refl
+one-point : (p q : Point) → ahead atBinary64 p q ≡ false → ahead atBinary64 q p ≡ false → same atBinary64 p q ≡ true
+one-point p q a b = go (same atBinary64 p q) refl
   where
     go : (s : Bool) → same atBinary64 p q ≡ s → s ≡ true
     go true e = refl
-    go false e = sym a ∙ ahead-apart laws p q h k e ∙ rw b
+    go false e = sym a ∙ ahead-apart laws p q e ∙ rw b
 
-not-ahead-trans : (p q r : Coordinate) → Fine p → Fine q → Fine r → ahead atBinary64 r q ≡ false → ahead atBinary64 q p ≡ false → ahead atBinary64 r p ≡ false
-unfolding laws
-not-ahead-trans p q r h j k a b = go (same atBinary64 q p) refl (ahead atBinary64 r p) refl
+not-ahead-trans : (p q r : Point) → ahead atBinary64 r q ≡ false → ahead atBinary64 q p ≡ false → ahead atBinary64 r p ≡ false
+not-ahead-trans p q r a b = go (same atBinary64 q p) refl (ahead atBinary64 r p) refl
   where
     go : (s : Bool) → same atBinary64 q p ≡ s → (c : Bool) → ahead atBinary64 r p ≡ c → c ≡ false
     go s e false f = refl
-    go true e true f = sym f ∙ sym (ahead-ext laws q p r j h k e .0) ∙ a
+    go true e true f = sym f ∙ sym (ahead-ext laws q p r e .0) ∙ a
     go false e true f =
-        let g : ahead atBinary64 p q ≡ true = not-false (ahead atBinary64 p q) (sym (ahead-apart laws q p j h e) ∙ b) in
-        sym (ahead-trans laws r p q k h j f g) ∙ a
+        let g : ahead atBinary64 p q ≡ true = not-false (ahead atBinary64 p q) (sym (ahead-apart laws q p e) ∙ b) in
+        sym (ahead-trans laws r p q f g) ∙ a
 
 -- ---- points in order
 
-module _ (at : List (List Float)) where
+module _ (at : List (List ℕ)) where
   all-stand : (i k : ℕ) → inOrder at i k ≡ true → (j : ℕ) → i ≤ j → j < i + k → stands at j ≡ true
   unfolding inOrder
   all-stand i zero h j a b = absurd (omega arith)
@@ -126,30 +123,13 @@ module _ (at : List (List Float)) where
       go true e v (no l) r = let n : j ≡ i = omega arith in rw n e
       go false e v d r = absurd (false≢true v)
 
-  fit-of : (j : ℕ) → stands at j ≡ true → atBinary64 .fit (pointIn at j) ≡ true
-  unfolding stands
-  fit-of zero h = h
-  fit-of (suc j) h = go (atBinary64 .fit (pointIn at (suc j))) (ahead atBinary64 (pointIn at (suc j)) (pointIn at j)) h
-    where
-      go : (a b : Bool) → (a && not b) ≡ true → a ≡ true
-      go true b v = refl
-      go false b v = v
-
   next-of : (j : ℕ) → stands at (suc j) ≡ true → ahead atBinary64 (pointIn at (suc j)) (pointIn at j) ≡ false
   unfolding stands
-  next-of j h = go (atBinary64 .fit (pointIn at (suc j))) (ahead atBinary64 (pointIn at (suc j)) (pointIn at j)) h
-    where
-      go : (a b : Bool) → (a && not b) ≡ true → b ≡ false
-      go true true v = sym v
-      go true false v = refl
-      go false b v = absurd (false≢true v)
+  next-of j h = not-true (ahead atBinary64 (pointIn at (suc j)) (pointIn at j)) h
 
   module _ (n : ℕ) (o : inOrder at 0 n ≡ true) where
     stand : (j : ℕ) → j < n → stands at j ≡ true
     stand j h = all-stand 0 n o j (omega arith) (omega arith)
-
-    fine-at : (j : ℕ) → j < n → Fine (pointIn at j)
-    fine-at j h = fine (pointIn at j) (fit-of j (stand j h))
 
     -- no later point is ahead of an earlier one
     later : (j k : ℕ) → j < k → k < n → ahead atBinary64 (pointIn at k) (pointIn at j) ≡ false
@@ -158,28 +138,23 @@ module _ (at : List (List Float)) where
       where
         go : Dec (j < k) → (j < k → k < n → ahead atBinary64 (pointIn at k) (pointIn at j) ≡ false) → ahead atBinary64 (pointIn at (suc k)) (pointIn at j) ≡ false
         go (yes m) r =
-            not-ahead-trans (pointIn at j) (pointIn at k) (pointIn at (suc k)) (fine-at j (omega arith)) (fine-at k (omega arith)) (fine-at (suc k) l)
-            (next-of k (stand (suc k) l)) (r m (omega arith))
+            not-ahead-trans (pointIn at j) (pointIn at k) (pointIn at (suc k)) (next-of k (stand (suc k) l)) (r m (omega arith))
         go (no m) r = let e : j ≡ k = omega arith in rw e (next-of k (stand (suc k) l))
 
-    module _ (q j m : ℕ) (Q : q < n) (J : j < n) (M : m < n) (s : same atBinary64 (pointIn at q) (pointIn at j) ≡ true) where
+    module _ (q j m : ℕ) (s : same atBinary64 (pointIn at q) (pointIn at j) ≡ true) where
       alike : (ahead atBinary64 (pointIn at m) (pointIn at q) ≡ ahead atBinary64 (pointIn at m) (pointIn at j)) × (ahead atBinary64 (pointIn at q) (pointIn at m) ≡ ahead atBinary64 (pointIn at j) (pointIn at m))
-      unfolding laws
-      alike = ahead-ext laws (pointIn at q) (pointIn at j) (pointIn at m) (fine-at q Q) (fine-at j J) (fine-at m M) s
-
-      one : ahead atBinary64 (pointIn at q) (pointIn at m) ≡ false → ahead atBinary64 (pointIn at m) (pointIn at q) ≡ false → same atBinary64 (pointIn at q) (pointIn at m) ≡ true
-      one = one-point (pointIn at q) (pointIn at m) (fine-at q Q) (fine-at m M)
+      alike = ahead-ext laws (pointIn at q) (pointIn at j) (pointIn at m) s
 
       -- a point between two that are one is one with them
-      between-below : j < m → m < q → same atBinary64 (pointIn at q) (pointIn at m) ≡ true
-      between-below a b = one (later m q b Q) (alike .0 ∙ later j m a M)
+      between-below : q < n → j < m → m < q → same atBinary64 (pointIn at q) (pointIn at m) ≡ true
+      between-below l a b = one-point (pointIn at q) (pointIn at m) (later m q b l) (alike .0 ∙ later j m a (omega arith))
 
-      between-above : q < m → m < j → same atBinary64 (pointIn at q) (pointIn at m) ≡ true
-      between-above a b = one (alike .1 ∙ later m j b J) (later q m a M)
+      between-above : j < n → q < m → m < j → same atBinary64 (pointIn at q) (pointIn at m) ≡ true
+      between-above l a b = one-point (pointIn at q) (pointIn at m) (alike .1 ∙ later m j b l) (later q m a (omega arith))
 
   -- ---- the block
 
-  module _ (p : Coordinate) where
+  module _ (p : Point) where
     abbrev Here : ℕ → Bool
     Here j = same atBinary64 p (pointIn at j)
 
@@ -233,7 +208,7 @@ module _ (at : List (List Float)) where
 
 module _ (t : Rows) (o : inOrder (t .at) 0 (size t) ≡ true) where
   module _ (q : ℕ) (l : q < size t) where
-    abbrev p : Coordinate
+    abbrev p : Point
     p = pointAt t q
 
     abbrev lo : ℕ
@@ -250,11 +225,11 @@ module _ (t : Rows) (o : inOrder (t .at) 0 (size t) ≡ true) where
 
     -- no other row has the point
     below-lo : (j : ℕ) → j < lo → same atBinary64 p (pointAt t j) ≡ false
-    below-lo = start-out (t .at) p q (λ j m a b s. between-below (t .at) (size t) o q j m l (omega arith) (omega arith) s a b)
+    below-lo = start-out (t .at) p q (λ j m a b s. between-below (t .at) (size t) o q j m s l a b)
 
     above-hi : (j : ℕ) → hi ≤ j → j < size t → same atBinary64 p (pointAt t j) ≡ false
     above-hi j a b =
-        end-out (t .at) p (q + 1) (size t - (q + 1)) (λ m j x y z s. between-above (t .at) (size t) o q j m l (omega arith) (omega arith) s (omega arith) y) j a (omega arith)
+        end-out (t .at) p (q + 1) (size t - (q + 1)) (λ m j x y z s. between-above (t .at) (size t) o q j m s (omega arith) (omega arith) y) j a (omega arith)
 
     abbrev isRight : ℕ → Bool
     isRight j = same atBinary64 p (tableRow t j .point) && not (tableRow t j .left)

@@ -8,7 +8,7 @@ use native.Mathlib.Nat.{sub-zero}
 use native.Mathlib.Omega.{arith}
 use borrow.Author.Tests.{le-ltb, lt-ltb, not-true, not-false}
 use lib.ListN.{length, getD, List·getD-eq-default}
-use Rattle.numbers.specs.declared.Coordinate.{Coordinate}
+use Rattle.numbers.specs.declared.Point.{Point}
 use Rattle.events.specs.Coordinates.{same}
 use Rattle.events.specs.Binary64.{atBinary64}
 use Rattle.checks.specs.Numbers.{numbersFrom}
@@ -42,7 +42,7 @@ open-yes m h = rw h
 
 -- ---- one end
 
-module _ (t : Rows) (ms : List ℕ) (p : Coordinate) (l : Bool) (i m : ℕ) (e : m ≡ markIn ms i) where
+module _ (t : Rows) (ms : List ℕ) (p : Point) (l : Bool) (i m : ℕ) (e : m ≡ markIn ms i) where
   pub fit-shut : (m ≡ 0 → ⊥) → false ≡ fitting t ms p l i
   unfolding fitting
   fit-shut h = rw (← e, open-no m h)
@@ -52,13 +52,13 @@ module _ (t : Rows) (ms : List ℕ) (p : Coordinate) (l : Bool) (i m : ℕ) (e :
     unfolding fitting
     fit-side z = rw (← e, open-yes m h, ← g, z)
 
-    pub fit-same : Bool·beq (r .left) l ≡ true → (q : Coordinate) (b : Bool) → q ≡ pointAt t i → b ≡ same atBinary64 p q → b ≡ fitting t ms p l i
+    pub fit-same : Bool·beq (r .left) l ≡ true → (q : Point) (b : Bool) → q ≡ pointAt t i → b ≡ same atBinary64 p q → b ≡ fitting t ms p l i
     unfolding fitting
     fit-same z q b k s = rw (← e, open-yes m h, ← g, z, ← k) s
 
 -- ---- runs of positions
 
-module _ (t : Rows) (ms : List ℕ) (p : Coordinate) where
+module _ (t : Rows) (ms : List ℕ) (p : Point) where
   right-step : (i k : ℕ) → rightsFrom t ms p i (suc k) ≡ cond (fitting t ms p false i) i (rightsFrom t ms p (suc i) k)
   unfolding rightsFrom rights keep numbersFrom seek found fitting markIn tableRow rowOf
   right-step i k = go (isOpen (getD ms i 1)) (endAt t i .left) (same atBinary64 p (pointAt t i)) refl
@@ -171,7 +171,7 @@ pub tries-all : (t : Rows) (q : ℕ) → triesIn t (pointAt t q) 0 (size t) q �
 unfolding triesIn tries tableRow rowOf
 tries-all t q = rw (sub-zero q, sub-zero (size t))
 
-module _ (t : Rows) (ms : List ℕ) (q : ℕ) (p : Coordinate) (a : p ≡ pointAt t q) where
+module _ (t : Rows) (ms : List ℕ) (q : ℕ) (p : Point) (a : p ≡ pointAt t q) where
   all-is : nextIn t ms p 0 (size t) q ≡ found (length ms) (seek ms (tries (same atBinary64) (size t) (tableRow t) q))
   unfolding nextIn
   all-is = rw (a, tries-all t q)

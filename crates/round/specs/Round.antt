@@ -6,7 +6,7 @@ use mathlib.Core.List.{List, _++_}
 use Prim.Native.Nat.{ℕ, _+_, _-_}
 use lib.Dec.{ltb}
 use lib.ListN.{length, getD}
-use Rattle.numbers.specs.declared.Coordinate.{Coordinate}
+use Rattle.numbers.specs.declared.Point.{Point}
 use Rattle.events.specs.Coordinates.{same}
 use Rattle.events.specs.Binary64.{atBinary64}
 use Rattle.contours.specs.Round.{isOpen, seek, rights, lefts, tries}
@@ -23,7 +23,7 @@ markIn ms i = getD ms i 1
 
 -- ---- the ends at p that are tried from q, among the rows from lo up to and not with hi
 
-module _ (t : Rows) (p : Coordinate) where
+module _ (t : Rows) (p : Point) where
   abbrev pub rightEnds : ℕ → ℕ → List ℕ
   rightEnds i k = rights (same atBinary64) (size t) (tableRow t) p i k
 
@@ -57,10 +57,10 @@ module _ (t : Rows) where
 -- ---- its parts
 
 -- the end at i is a left end, or a right end, at the point p, and open
-unfoldable pub fitting : Rows → List ℕ → Coordinate → Bool → ℕ → Bool
+unfoldable pub fitting : Rows → List ℕ → Point → Bool → ℕ → Bool
 fitting t ms p l i = cond (isOpen (markIn ms i)) (cond (Bool·beq (endAt t i .left) l) (same atBinary64 p (pointAt t i)) false) false
 
-module _ (t : Rows) (ms : List ℕ) (p : Coordinate) where
+module _ (t : Rows) (ms : List ℕ) (p : Point) where
   -- the first open end among the right ends, and among the left ends
   unfoldable pub rightsFrom : ℕ → ℕ → ℕ
   rightsFrom i k = found (length ms) (seek ms (rightEnds t p i k))

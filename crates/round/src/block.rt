@@ -2,14 +2,13 @@
 ghost use mathlib.Core.Path.{_≡_};
 ghost use Prim.Native.Nat.{_-_};
 ghost use Rattle.round.specs.Block.{blockStart, blockEnd, stands, inOrder};
-use checks::records::is_ahead;
-use events::points::is_unfit_point;
+use events::points::is_ahead;
 use events::points::same_point;
-use numbers::Coordinate;
+use numbers::Point;
 use rows::point_at;
 
 // The first of the rows straight below i that have the point p.
-pub fn block_start(at: &[[f64; 2]], p: Coordinate, i: usize) -> usize
+pub fn block_start(at: &[[u64; 2]], p: Point, i: usize) -> usize
     ensures { λ r. ⌜ r ≡ blockStart (now (at .entry)) p i ⌝ }
 {
     let mut j = i;
@@ -25,7 +24,7 @@ pub fn block_start(at: &[[f64; 2]], p: Coordinate, i: usize) -> usize
 }
 
 // Where the rows from i on that have the point p end, at e at the latest.
-pub fn block_end(at: &[[f64; 2]], p: Coordinate, i: usize, e: usize) -> usize
+pub fn block_end(at: &[[u64; 2]], p: Point, i: usize, e: usize) -> usize
     ensures { λ r. ⌜ r ≡ blockEnd (now (at .entry)) p i (e - i) ⌝ }
 {
     let mut j = i;
@@ -40,23 +39,20 @@ pub fn block_end(at: &[[f64; 2]], p: Coordinate, i: usize, e: usize) -> usize
     j
 }
 
-// The point at i is fit and not ahead of the one below it.
-fn stands_at(at: &[[f64; 2]], i: usize) -> bool
+// The point at i is not ahead of the one below it.
+fn stands_at(at: &[[u64; 2]], i: usize) -> bool
     ensures { λ r. ⌜ r ≡ stands (now (at .entry)) i ⌝ }
 {
-    let p = point_at(at, i);
-    if is_unfit_point(p) {
-        return false;
-    }
     if i == 0 {
         return true;
     }
+    let p = point_at(at, i);
     let q = point_at(at, i - 1);
     !is_ahead(p, q)
 }
 
 // The first n points stand in order.
-pub fn in_order(at: &[[f64; 2]], n: usize) -> bool
+pub fn in_order(at: &[[u64; 2]], n: usize) -> bool
     ensures { λ r. ⌜ r ≡ inOrder (now (at .entry)) 0 n ⌝ }
 {
     let mut i = 0;

@@ -8,7 +8,7 @@ ghost use Rattle.round.specs.Round.{markIn, fitting, rightsFrom, leftsFr
 use block::block_end;
 use block::block_start;
 use events::points::same_point;
-use numbers::Coordinate;
+use numbers::Point;
 use rows::end_at;
 use rows::point_at;
 
@@ -25,14 +25,7 @@ pub fn mark_at(marks: &[u32], i: usize) -> u32
 }
 
 // The end at i is a left end, or a right end, at the point p, and open.
-fn fits(
-    rows: &[[u32; 4]],
-    at: &[[f64; 2]],
-    marks: &[u32],
-    p: Coordinate,
-    left: bool,
-    i: usize,
-) -> bool
+fn fits(rows: &[[u32; 4]], at: &[[u64; 2]], marks: &[u32], p: Point, left: bool, i: usize) -> bool
     ensures { λ r. ⌜ r ≡ fitting (lent (now (rows .entry)) (now (at .entry))) (now (marks .entry)) p left i ⌝ }
 {
     if mark_at(marks, i) != 0 {
@@ -47,14 +40,7 @@ fn fits(
 }
 
 // The first open right end at p from i up to and not with e.
-fn seek_up(
-    rows: &[[u32; 4]],
-    at: &[[f64; 2]],
-    marks: &[u32],
-    p: Coordinate,
-    i: usize,
-    e: usize,
-) -> usize
+fn seek_up(rows: &[[u32; 4]], at: &[[u64; 2]], marks: &[u32], p: Point, i: usize, e: usize) -> usize
     ensures { λ r. ⌜ r ≡ rightsFrom (lent (now (rows .entry)) (now (at .entry))) (now (marks .entry)) p i (e - i) ⌝ }
 {
     let mut j = i;
@@ -70,9 +56,9 @@ fn seek_up(
 // The last open left end at p from i up to and not with e.
 fn seek_down(
     rows: &[[u32; 4]],
-    at: &[[f64; 2]],
+    at: &[[u64; 2]],
     marks: &[u32],
-    p: Coordinate,
+    p: Point,
     i: usize,
     e: usize,
 ) -> usize
@@ -91,9 +77,9 @@ fn seek_down(
 // From a left end at q, among the rows from lo up to and not with hi.
 fn from_left(
     rows: &[[u32; 4]],
-    at: &[[f64; 2]],
+    at: &[[u64; 2]],
     marks: &[u32],
-    p: Coordinate,
+    p: Point,
     lo: usize,
     hi: usize,
     q: usize,
@@ -115,9 +101,9 @@ fn from_left(
 // From a right end at q.
 fn from_right(
     rows: &[[u32; 4]],
-    at: &[[f64; 2]],
+    at: &[[u64; 2]],
     marks: &[u32],
-    p: Coordinate,
+    p: Point,
     lo: usize,
     hi: usize,
     q: usize,
@@ -139,9 +125,9 @@ fn from_right(
 // From the end at q, at the point p.
 fn next_in(
     rows: &[[u32; 4]],
-    at: &[[f64; 2]],
+    at: &[[u64; 2]],
     marks: &[u32],
-    p: Coordinate,
+    p: Point,
     lo: usize,
     hi: usize,
     q: usize,
@@ -157,7 +143,7 @@ fn next_in(
 }
 
 // The next open end round the point of the end at q: by all rows, or, where near, by those around q that have its point.
-pub fn next_pos(rows: &[[u32; 4]], at: &[[f64; 2]], marks: &[u32], near: bool, q: u32) -> usize
+pub fn next_pos(rows: &[[u32; 4]], at: &[[u64; 2]], marks: &[u32], near: bool, q: u32) -> usize
     ensures { λ r. ⌜ r ≡ nextPos (lent (now (rows .entry)) (now (at .entry))) near (now (marks .entry)) q ⌝ }
 {
     let i = q as usize;

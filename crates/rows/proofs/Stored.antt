@@ -6,7 +6,7 @@ use Prim.Native.Nat.{ℕ, _<_}
 use borrow.Author.Tests.{lt-ltb}
 use lib.ListN.{length, length-set}
 use lib.Seq.{getD-set-same, getD-set-other}
-use Rattle.numbers.specs.declared.Coordinate.{Coordinate}
+use Rattle.numbers.specs.declared.Point.{Point}
 use Rattle.events.proofs.Codes.{flag}
 use Rattle.contours.specs.Table.{Below, nothing, over, Row}
 use Rattle.rows.specs.declared.End.{End}
@@ -16,7 +16,7 @@ pub end-back : (e : End) → endOf (endCode e) ≡ e
 unfolding endOf endCode
 end-back e = rw (flag (e .left), flag (e .«out_in»))
 
-pub point-back : (p : Coordinate) → pointOf (pointCode p) ≡ p
+pub point-back : (p : Point) → pointOf (pointCode p) ≡ p
 unfolding pointOf pointCode
 point-back p = refl
 
@@ -26,24 +26,24 @@ below-back nothing = refl
 below-back (over k b) = refl
 
 -- every row of the definition has numbers
-pub row-back : (r : Row Coordinate) → rowOf (r .point) (endFor r) ≡ r
+pub row-back : (r : Row Point) → rowOf (r .point) (endFor r) ≡ r
 unfolding rowOf endFor
 row-back r = rw (below-back (r .below))
 
-pub size-put : (t : Rows) (i : ℕ) (p : Coordinate) (e : End) → size (put t i p e) ≡ size t
+pub size-put : (t : Rows) (i : ℕ) (p : Point) (e : End) → size (put t i p e) ≡ size t
 unfolding put
 size-put t i p e = length-set (t .rows) i (endCode e)
 
-pub here : (t : Rows) (i : ℕ) (p : Coordinate) (e : End) → i < size t → i < length (t .at) → tableRow (put t i p e) i ≡ rowOf p e
+pub here : (t : Rows) (i : ℕ) (p : Point) (e : End) → i < size t → i < length (t .at) → tableRow (put t i p e) i ≡ rowOf p e
 unfolding tableRow put pointIn endIn
 here t i p e h k =
     rw
     (length-set (t .at) i (pointCode p), lt-ltb i (length (t .at)) k, getD-set-same (t .rows) i (endCode e) [] h, getD-set-same (t .at) i (pointCode p) [] k, end-back e, point-back p)
 
-pub away : (t : Rows) (i j : ℕ) (p : Coordinate) (e : End) → j ≢ i → tableRow (put t i p e) j ≡ tableRow t j
+pub away : (t : Rows) (i j : ℕ) (p : Point) (e : End) → j ≢ i → tableRow (put t i p e) j ≡ tableRow t j
 unfolding tableRow put pointIn endIn
 away t i j p e h = rw (length-set (t .at) i (pointCode p), getD-set-other (t .rows) i j (endCode e) [] h, getD-set-other (t .at) i j (pointCode p) [] h)
 
 -- the numbers of a row, stored and read
-pub stored : (t : Rows) (i : ℕ) (r : Row Coordinate) → i < size t → i < length (t .at) → tableRow (put t i (r .point) (endFor r)) i ≡ r
+pub stored : (t : Rows) (i : ℕ) (r : Row Point) → i < size t → i < length (t .at) → tableRow (put t i (r .point) (endFor r)) i ≡ r
 stored t i r h k = here t i (r .point) (endFor r) h k ∙ row-back r

@@ -5,17 +5,16 @@ use mathlib.Core.List.{List, [], _∷_}
 use Prim.Native.Nat.{ℕ, zero, suc}
 use lib.Dec.{eqb, ltb}
 use lib.ListN.{length, getD, set}
-use lib.Ieee.{Float, nan}
-use Rattle.numbers.specs.declared.Coordinate.{Coordinate}
+use Rattle.numbers.specs.declared.Point.{Point}
 use Rattle.events.specs.Pool.{flagNumber, blank}
 use Rattle.contours.specs.Table.{Below, nothing, over, Row}
 use Rattle.rows.specs.declared.End.{End}
 
 pub record Rows : Type 0 where
   pub rows : List (List ℕ)
-  pub at : List (List Float)
+  pub at : List (List ℕ)
 
-abbrev pub lent : List (List ℕ) → List (List Float) → Rows
+abbrev pub lent : List (List ℕ) → List (List ℕ) → Rows
 lent r a = record { rows = r; at = a }
 
 abbrev pub size : Rows → ℕ
@@ -23,10 +22,10 @@ size t = length (t .rows)
 
 -- ---- numbers for a point and an end
 
-unfoldable pub pointOf : List Float → Coordinate
-pointOf q = record { x = getD q 0 nan; y = getD q 1 nan }
+unfoldable pub pointOf : List ℕ → Point
+pointOf q = record { x = getD q 0 0; y = getD q 1 0 }
 
-unfoldable pub pointCode : Coordinate → List Float
+unfoldable pub pointCode : Point → List ℕ
 pointCode p = p .x ∷ p .y ∷ []
 
 unfoldable pub endOf : List ℕ → End
@@ -41,7 +40,7 @@ unfoldable pub belowOf : ℕ → Bool → Below
 belowOf zero b = nothing
 belowOf (suc k) b = over k b
 
-unfoldable pub rowOf : Coordinate → End → Row Coordinate
+unfoldable pub rowOf : Point → End → Row Point
 rowOf p e = record { point = p; left = e .left; other = e .other; below = belowOf (e .below) (e .«out_in») }
 
 -- the number of the edge below, and its flag
@@ -53,29 +52,29 @@ unfoldable pub belowFlag : Below → Bool
 belowFlag nothing = false
 belowFlag (over k b) = b
 
-unfoldable pub endFor : Row Coordinate → End
+unfoldable pub endFor : Row Point → End
 endFor r = record { left = r .left; other = r .other; below = belowNumber (r .below); «out_in» = belowFlag (r .below) }
 
 -- ---- reading and storing by position
 
 -- the point of what is read beyond the table
-unfoldable pub void : Coordinate
+unfoldable pub void : Point
 void = blank 0 .point
 
-unfoldable pub pointIn : List (List Float) → ℕ → Coordinate
+unfoldable pub pointIn : List (List ℕ) → ℕ → Point
 pointIn at i = cond (ltb i (length at)) (pointOf (getD at i [])) void
 
 unfoldable pub endIn : List (List ℕ) → ℕ → End
 endIn rows i = endOf (getD rows i [])
 
-abbrev pub pointAt : Rows → ℕ → Coordinate
+abbrev pub pointAt : Rows → ℕ → Point
 pointAt t i = pointIn (t .at) i
 
 abbrev pub endAt : Rows → ℕ → End
 endAt t i = endIn (t .rows) i
 
-unfoldable pub tableRow : Rows → ℕ → Row Coordinate
+unfoldable pub tableRow : Rows → ℕ → Row Point
 tableRow t i = rowOf (pointAt t i) (endAt t i)
 
-unfoldable pub put : Rows → ℕ → Coordinate → End → Rows
+unfoldable pub put : Rows → ℕ → Point → End → Rows
 put t i p e = lent (set (t .rows) i (endCode e)) (set (t .at) i (pointCode p))

@@ -5,7 +5,7 @@ ghost use mathlib.Core.Path.{_≡_};
 ghost use lib.ListN.{set};
 ghost use Rattle.rows.specs.Rows.{lent, put, pointIn, pointCode, endOf, endIn, endCode};
 use events::pool::number_of_flag;
-use numbers::Coordinate;
+use numbers::Point;
 
 // What a row holds beside its point.
 pub struct End {
@@ -18,14 +18,14 @@ pub struct End {
     pub out_in: bool,
 }
 
-pub fn point_at(at: &[[f64; 2]], i: usize) -> Coordinate
+pub fn point_at(at: &[[u64; 2]], i: usize) -> Point
     ensures { λ r. ⌜ r ≡ pointIn (now (at .entry)) i ⌝ }
 {
     if i < at.len() {
         let p = at[i];
-        return Coordinate { x: p[0], y: p[1] };
+        return Point { x: p[0], y: p[1] };
     }
-    Coordinate { x: 0.0, y: 0.0 }
+    Point { x: 0, y: 0 }
 }
 
 fn end_of(row: [u32; 4]) -> End
@@ -58,7 +58,7 @@ fn put_end(rows: &mut [[u32; 4]], i: usize, end: End)
     }
 }
 
-pub fn put_point(at: &mut [[f64; 2]], i: usize, p: Coordinate)
+pub fn put_point(at: &mut [[u64; 2]], i: usize, p: Point)
     ensures { λ _. ⌜ now (at .exit) ≡ set (now (at .entry)) i (pointCode p) ⌝ }
 {
     if i < at.len() {
@@ -66,7 +66,7 @@ pub fn put_point(at: &mut [[f64; 2]], i: usize, p: Coordinate)
     }
 }
 
-pub fn put_row(rows: &mut [[u32; 4]], at: &mut [[f64; 2]], i: usize, p: Coordinate, end: End)
+pub fn put_row(rows: &mut [[u32; 4]], at: &mut [[u64; 2]], i: usize, p: Point, end: End)
     ensures { λ _. ⌜ lent (now (rows .exit)) (now (at .exit)) ≡ put (lent (now (rows .entry)) (now (at .entry))) i p end ⌝ }
 {
     put_end(rows, i, end);

@@ -1,29 +1,38 @@
--- Two segments of finite heights of which one lies all above the other have no crossing, in any mode: crossing's law, in the words of segment order.
+-- Two segments of which one lies all above the other have no crossing, at binary64 in any mode: crossing's law, in the words of segment order.
 use mathlib.Core.Path.{_≡_}
+use mathlib.Core.Bool.{true}
 use Prim.Native.Nat.{ℕ}
-use lib.Ieee.{Float}
-use Rattle.numbers.specs.declared.Coordinate.{Coordinate}
-use Rattle.numbers.proofs.Rising.{Rising, less}
+use Rattle.numbers.specs.Words.{valueOf}
+use Rattle.numbers.specs.declared.Point.{Point}
 use Rattle.crossing.specs.Quick.{AllLess}
 use Rattle.crossing.proofs.Apart.{none-above, none-below}
-use Rattle.events.specs.Coordinates.{none}
-use Rattle.events.specs.Binary64.{inMode, crossOf}
+use Rattle.events.specs.Coordinates.{Coordinates, Crossing, none}
+use Rattle.events.specs.Binary64.{atBinary64, inMode, crossOf}
 
--- the heights of one segment each below both of the other's
-pub record Apart-in-y (a b c d : Float) : Type 0 where
-  pub a-c : Rising a c
-  pub a-d : Rising a d
-  pub b-c : Rising b c
-  pub b-d : Rising b d
+-- the ends of one segment each below both of the other's
+pub record Below {P : Type 0} (C : Coordinates P) (a b c d : P) : Type 0 where
+  pub a-c : C .lessY a c ≡ true
+  pub a-d : C .lessY a d ≡ true
+  pub b-c : C .lessY b c ≡ true
+  pub b-d : C .lessY b d ≡ true
 
-module _ (mode : ℕ) (a b c d : Coordinate) (r : Apart-in-y (a .y) (b .y) (c .y) (d .y)) where
-  all-less : AllLess (a .y) (b .y) (c .y) (d .y)
-  all-less = record { a-c = less (r .a-c); a-d = less (r .a-d); b-c = less (r .b-c); b-d = less (r .b-d) }
+-- a crossing finds nothing there, whichever is named first
+pub record Parts {P : Type 0} (C : Coordinates P) (crossing : Crossing P) : Type 0 where
+  pub above : (a b c d : P) → Below C a b c d → crossing a b c d ≡ none
+  pub below : (a b c d : P) → Below C a b c d → crossing c d a b ≡ none
 
-  pub crossing-above : inMode mode a b c d ≡ none
+all-less : (a b c d : Point) → Below atBinary64 a b c d → AllLess (valueOf a .y) (valueOf b .y) (valueOf c .y) (valueOf d .y)
+unfolding atBinary64 valueOf
+all-less a b c d r = record { a-c = r .a-c; a-d = r .a-d; b-c = r .b-c; b-d = r .b-d }
+
+module _ (mode : ℕ) where
+  crossing-above : (a b c d : Point) → Below atBinary64 a b c d → inMode mode a b c d ≡ none
   unfolding inMode crossOf
-  crossing-above = rw (none-above mode a b c d all-less)
+  crossing-above a b c d r = rw (none-above mode (valueOf a) (valueOf b) (valueOf c) (valueOf d) (all-less a b c d r))
 
-  pub crossing-below : inMode mode c d a b ≡ none
+  crossing-below : (a b c d : Point) → Below atBinary64 a b c d → inMode mode c d a b ≡ none
   unfolding inMode crossOf
-  crossing-below = rw (none-below mode a b c d all-less)
+  crossing-below a b c d r = rw (none-below mode (valueOf a) (valueOf b) (valueOf c) (valueOf d) (all-less a b c d r))
+
+  pub parts : Parts atBinary64 (inMode mode)
+  parts = record { above = crossing-above; below = crossing-below }

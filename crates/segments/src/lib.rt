@@ -2,7 +2,7 @@
 mod quick;
 
 ghost use mathlib.Core.Path.{_≡_};
-ghost use Rattle.events.specs.Binary64.{atBinary64, inMode, crossOf};
+ghost use Rattle.events.specs.Binary64.{atBinary64, inMode, shownMeeting};
 ghost use Rattle.events.specs.Pool.{pool};
 ghost use Rattle.order.specs.Keys.{shownKey};
 ghost use Rattle.order.specs.Order.{isZero};
@@ -10,14 +10,17 @@ ghost use Rattle.segments.specs.Segments as Segments;
 ghost use Rattle.segments.specs.Segments.{isPositive, lessIf, lessIfInversed, alongside, byCrossing, oldBelow};
 ghost use Rattle.segments.specs.OnPool as OnPool;
 ghost use Rattle.segments.specs.Quick.{byBoxes};
-use crossing::LineIntersection;
-use crossing::intersection;
+use events::points::Meeting;
+use events::points::crossing;
+use events::points::less_x;
+use events::points::less_y;
 use events::points::same_point;
+use events::points::same_x;
+use events::points::turn;
 use order::Key;
 use order::before;
 use order::key_at;
 use orientation::Sign;
-use orientation::signed_area;
 use quick::is_beside;
 use quick::is_under;
 
@@ -81,25 +84,19 @@ fn old_is_below_on_line(old: Key, new: Key) -> bool
 }
 
 // By the signs the segments cross: a crossing at the newer one's left end leaves it to its right end.
-fn old_is_below_by_crossing(
-    found: LineIntersection,
-    old: Key,
-    new: Key,
-    left: bool,
-    right: bool,
-) -> bool
-    ensures { λ r. ⌜ r ≡ byCrossing atBinary64 (crossOf found) (shownKey old) (shownKey new) left right ⌝ }
+fn old_is_below_by_crossing(found: Meeting, old: Key, new: Key, left: bool, right: bool) -> bool
+    ensures { λ r. ⌜ r ≡ byCrossing atBinary64 (shownMeeting found) (shownKey old) (shownKey new) left right ⌝ }
 {
     match found {
-        LineIntersection::None => left,
-        LineIntersection::Point(p) => {
+        Meeting::Nothing => left,
+        Meeting::At(p) => {
             if same_point(p, new.point) {
                 return right;
             }
             left
         }
-        LineIntersection::Overlap(_, _) => old_is_below_on_line(old, new),
-        LineIntersection::Lost => left,
+        Meeting::Along(_, _) => old_is_below_on_line(old, new),
+        Meeting::Lost => left,
     }
 }
 
@@ -112,8 +109,8 @@ fn old_is_below_off_line(old: Key, new: Key, sa_l: Sign, sa_r: Sign, mode: u32) 
     if same_point(old.point, new.point) {
         return right;
     }
-    if old.point.x == new.point.x {
-        return old.point.y < new.point.y;
+    if same_x(old.point, new.point) {
+        return less_y(old.point, new.point);
     }
     if left == right {
         return left;
@@ -121,7 +118,7 @@ fn old_is_below_off_line(old: Key, new: Key, sa_l: Sign, sa_r: Sign, mode: u32) 
     if is_zero(sa_l) {
         return right;
     }
-    let found = intersection(mode, old.point, old.mate, new.point, new.mate);
+    let found = crossing(mode, old.point, old.mate, new.point, new.mate);
     old_is_below_by_crossing(found, old, new, left, right)
 }
 
@@ -129,8 +126,8 @@ fn old_is_below_off_line(old: Key, new: Key, sa_l: Sign, sa_r: Sign, mode: u32) 
 fn old_is_below(old: Key, new: Key, mode: u32) -> bool
     ensures { λ r. ⌜ r ≡ oldBelow atBinary64 (inMode mode) (shownKey old) (shownKey new) ⌝ }
 {
-    let sa_l = signed_area(old.point, old.mate, new.point);
-    let sa_r = signed_area(old.point, old.mate, new.mate);
+    let sa_l = turn(old.point, old.mate, new.point);
+    let sa_r = turn(old.point, old.mate, new.mate);
     if is_zero(sa_l) {
         if is_zero(sa_r) {
             return old_is_below_on_line(old, new);
@@ -148,14 +145,14 @@ enum ByBoxes {
 
 // Where b is the older one and the boxes lie apart in y, they tell how a compares to it, in every mode.
 fn by_boxes(a: Key, b: Key) -> ByBoxes
-    ensures { λ r. ⌜ r ≡ byBoxes (shownKey a) (shownKey b) ⌝ }
+    ensures { λ r. ⌜ r ≡ byBoxes atBinary64 (shownKey a) (shownKey b) ⌝ }
 {
     if is_beside(b, a) {
         if is_under(b, a) {
             return ByBoxes::Greater;
         }
         // at one x the lower one is the older
-        if b.point.x < a.point.x {
+        if less_x(b.point, a.point) {
             if is_under(a, b) {
                 return ByBoxes::Less;
             }
@@ -182,7 +179,7 @@ pub fn compare_segments(a: Key, b: Key, mode: u32) -> Ordering
 
 // The same of two records of a pool; a record is equal to itself.
 pub fn compare_segments_at(
-    points: &[[f64; 2]],
+    points: &[[u64; 2]],
     marks: &[[u32; 12]],
     a: u32,
     b: u32,

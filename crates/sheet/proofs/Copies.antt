@@ -4,7 +4,6 @@ use mathlib.Core.List.{List, _++_, map}
 use Prim.Native.Nat.{ℕ, _+_, _-_, _≤_, _<_}
 use native.Mathlib.Omega.{arith}
 use native.Mathlib.Numerals.{add-one}
-use lib.Ieee.{Float}
 use lib.ListN.{length, getD, set, take, drop, length-map, length-append, drop-of-length-le}
 use lib.Seq.{sets, drop-cons, take-take, take-add, take-at, drop-at}
 use Rattle.class.specs.declared.Operation.{Operation}
@@ -54,7 +53,7 @@ module _ (b : List ℕ) (x : Told) (h : x ≡ told (readSheet b)) where
   unfolding leaveRows
   rows-refused q e subject clip = rw (was-refused q e)
 
-  pub left-refused : (q : Refusal) → x ≡ ToldRefused q → (ends : List (List Float)) (labels : List (List ℕ)) → left (ToldRefused q) ends labels ≡ leave (readSheet b) ends labels
+  pub left-refused : (q : Refusal) → x ≡ ToldRefused q → (ends labels : List (List ℕ)) → left (ToldRefused q) ends labels ≡ leave (readSheet b) ends labels
   unfolding leave
   left-refused q e ends labels = rw (was-refused q e)
 
@@ -103,7 +102,7 @@ module _ (b : List ℕ) (x : Told) (h : x ≡ told (readSheet b)) where
       stored : {A : Type 0} (f g : List ℕ → A) (u v : Edge → A) (lent some all : List A) → map f (map rowOf (was .sheet .subject)) ≡ map u (was .sheet .subject) → map g (map rowOf (was .sheet .clip)) ≡ map v (was .sheet .clip) → some ≡ sets lent 0 (map f (take n own)) → all ≡ sets some n (map g (take (n + m - n) (drop n own))) → all ≡ sets lent 0 (map u (was .sheet .subject) ++ map v (was .sheet .clip))
       stored f g u v lent some all p q c d = put-both u v lent some all (was .sheet .subject) (was .sheet .clip) n (was .subject) (rw (subject-read, p) at c) (rw (clip-read, q) at d)
 
-      module _ (ends ends1 ends2 : List (List Float)) (labels labels1 labels2 : List (List ℕ)) where
+      module _ (ends ends1 ends2 labels labels1 labels2 : List (List ℕ)) where
         pub sheet-read : ends1 ≡ sets ends 0 (map endsOfRow (take n own)) → ends2 ≡ sets ends1 n (map endsOfRow (take (n + m - n) (drop n own))) → labels1 ≡ sets labels 0 (map (labelsOfRow 1) (take n own)) → labels2 ≡ sets labels1 n (map (labelsOfRow 0) (take (n + m - n) (drop n own))) → left (Read o n m) ends2 labels2 ≡ leave (readSheet b) ends labels
         unfolding leave
         sheet-read ea eb la lb =

@@ -8,12 +8,12 @@ use native.Mathlib.Omega.{arith}
 use borrow.Author.Tests.{ne-eqb}
 use lib.Dec.{eqb}
 use lib.ListN.{length}
+use Rattle.numbers.specs.declared.Point.{Point}
 use Rattle.class.specs.declared.Operation.{Operation}
 use Rattle.class.specs.declared.Operation.the-variants.{Intersection, Difference, Union, Xor}
 use Rattle.text.specs.Quoted.{quoted}
 use Rattle.text.specs.Digits.{digit, digits, hex, places, decimal}
 use Rattle.text.proofs.Writing.{digit-low, digit-high}
-use Rattle.sheet.specs.declared.edges.Corner.{Corner}
 use Rattle.sheet.specs.declared.edges.Edge.{Edge}
 use Rattle.sheet.specs.Sheet.{operationWord, operationLine, subjectWord, clipWord, countLine, numberBytes, cornerBytes, edgeLine, edgeLines, layerBytes}
 use Rattle.sheet.specs.Lines.{firstLines}
@@ -83,7 +83,7 @@ within-number : (w : ℕ) → Within (numberBytes w)
 unfolding numberBytes
 within-number w = within-join (32 ∷ []) (hex w) (within-byte 32 (λ e. omega arith)) (within-digits 16 16 w)
 
-within-corner : (p : Corner) → Within (cornerBytes p)
+within-corner : (p : Point) → Within (cornerBytes p)
 unfolding cornerBytes
 within-corner p = within-join (numberBytes (p .x)) (numberBytes (p .y)) (within-number (p .x)) (within-number (p .y))
 

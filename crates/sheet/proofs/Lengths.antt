@@ -5,11 +5,11 @@ use mathlib.Core.List.{List, [], _∷_}
 use Prim.Native.Nat.{ℕ, suc, _+_, _*_, _^_, _≤_, _<_}
 use native.Mathlib.Omega.{arith}
 use lib.ListN.{length, length-append}
+use Rattle.numbers.specs.declared.Point.{Point}
 use Rattle.class.specs.declared.Operation.{Operation}
 use Rattle.class.specs.declared.Operation.the-variants.{Intersection, Difference, Union, Xor}
 use Rattle.text.specs.Quoted.{quoted}
 use Rattle.text.proofs.Writing.{digits-length}
-use Rattle.sheet.specs.declared.edges.Corner.{Corner}
 use Rattle.sheet.specs.declared.edges.Edge.{Edge}
 use Rattle.sheet.specs.Sheet.{Sheet, EdgeFits, AllFit, Fits, operationWord, operationLine, subjectWord, clipWord, countLine, numberBytes, cornerBytes, edgeLine, edgeLines, layerBytes, written}
 use Rattle.sheet.specs.Reading.{Reading, Accepted, Refused, readSheet}
@@ -38,7 +38,7 @@ pub number-long : (w : ℕ) → length (numberBytes w) ≡ 17
 unfolding numberBytes
 number-long w = omega (arith, digits-length 16 16 w)
 
-corner-long : (p : Corner) → length (cornerBytes p) ≡ 34
+corner-long : (p : Point) → length (cornerBytes p) ≡ 34
 unfolding cornerBytes
 corner-long p = omega (arith, length-append (numberBytes (p .x)) (numberBytes (p .y)), number-long (p .x), number-long (p .y))
 

@@ -7,13 +7,13 @@ use native.Mathlib.Omega.{arith}
 use borrow.Author.Tests.{lt-ltb, le-ltb, eq-eqb, ne-eqb}
 use lib.ListN.{length, drop, drop-of-length-le, length-drop}
 use lib.Seq.{drop-drop}
+use Rattle.numbers.specs.declared.Point.{Point}
 use Rattle.class.specs.declared.Operation.the-variants.{Intersection, Difference, Union, Xor}
 use Rattle.text.specs.declared.digits.Read.{Read}
 use Rattle.text.specs.declared.digits.Read.the-variants.{Value, Nothing}
 use Rattle.text.specs.Quoted.{quoted}
 use Rattle.text.specs.Words.{begins}
 use Rattle.text.specs.Digits.{hexAt, decimalAt}
-use Rattle.sheet.specs.declared.edges.Corner.{Corner}
 use Rattle.sheet.specs.declared.numerals.Ring as ring
 use Rattle.sheet.specs.declared.edges.ReadCorner as corner
 use Rattle.sheet.specs.Sheet.{operationLine, operationWord}
@@ -111,7 +111,7 @@ module _ (b : List ℕ) (at : ℕ) (r : ring.Ring) (hr : shownRing b r ≡ ringO
     unfolding edgeOf andThen
     edge-from e = rw (← hr, er, ← hf, e)
 
-    module _ (from : Corner) (ef : f ≡ corner.the-variants.Bits from) (q : ℕ) (hq : q ≡ min (p + 34) (length b)) (t : corner.ReadCorner) (ht : shownCorner (drop q b) t ≡ cornerOf (drop q b)) where
+    module _ (from : Point) (ef : f ≡ corner.the-variants.Bits from) (q : ℕ) (hq : q ≡ min (p + 34) (length b)) (t : corner.ReadCorner) (ht : shownCorner (drop q b) t ≡ cornerOf (drop q b)) where
       to-there : shownCorner (drop q b) t ≡ cornerOf (drop 34 (drop p b))
       to-there = ht ∙ ap cornerOf (ap (λ (n : ℕ). drop n b) hq ∙ further b p 34)
 
@@ -119,7 +119,7 @@ module _ (b : List ℕ) (at : ℕ) (r : ring.Ring) (hr : shownRing b r ≡ ringO
       unfolding edgeOf andThen
       edge-to e = rw (← hr, er, ← hf, ef, ← to-there, e)
 
-      module _ (to : Corner) (et : t ≡ corner.the-variants.Bits to) (n : ℕ) (hn : n ≡ min (q + 34) (length b)) where
+      module _ (to : Point) (et : t ≡ corner.the-variants.Bits to) (n : ℕ) (hn : n ≡ min (q + 34) (length b)) where
         there : drop 34 (drop q b) ≡ drop n b
         there = sym (ap (λ (k : ℕ). drop k b) hn ∙ further b q 34)
 

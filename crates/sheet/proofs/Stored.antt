@@ -3,8 +3,6 @@ use mathlib.Core.Path.{_≡_, refl}
 use mathlib.Core.List.{List, [], _∷_, map}
 use Prim.Native.Nat.{ℕ}
 use native.Mathlib.Nat.{mod-eq-of-lt}
-use lib.Ieee.{Float, binary64, ofBits}
-use lib.ListN.{getD}
 use Rattle.sheet.specs.declared.edges.Edge.{Edge}
 use Rattle.sheet.specs.Sheet.{EdgeFits, AllFit}
 use Rattle.sheet.specs.Stored.{rowOf, edgeOfRow, endsOf, labelsOf, endsOfRow, labelsOfRow}
@@ -26,8 +24,3 @@ labels-of-row k e h = rw (mod-eq-of-lt (h .ring))
 pub labels-of-rows : (k : ℕ) (l : List Edge) → AllFit l → map (labelsOfRow k) (map rowOf l) ≡ map (labelsOf k) l
 labels-of-rows k [] h = refl
 labels-of-rows k (e ∷ l) h = rw (labels-of-row k e (h .0), labels-of-rows k l (h .1))
-
--- the four numbers of its bits
-pub row-ends : (r : List ℕ) (x y z w : Float) → x ≡ ofBits binary64 (getD r 0 0) → y ≡ ofBits binary64 (getD r 1 0) → z ≡ ofBits binary64 (getD r 2 0) → w ≡ ofBits binary64 (getD r 3 0) → x ∷ y ∷ z ∷ w ∷ [] ≡ endsOfRow r
-unfolding edgeOfRow endsOf endsOfRow
-row-ends r x y z w p q s t = rw (p, q, s, t)

@@ -8,6 +8,7 @@ use borrow.Author.Tests.{le-ltb, ne-eqb, eqb-false}
 use lib.Dec.{eqb, ltb}
 use lib.ListN.{length, drop}
 use lib.Seq.{drop-append-seam}
+use Rattle.numbers.specs.declared.Point.{Point}
 use Rattle.class.specs.declared.Operation.{Operation}
 use Rattle.class.specs.declared.Operation.the-variants.{Intersection, Difference, Union, Xor}
 use Rattle.text.specs.declared.digits.Read.{Read}
@@ -15,7 +16,6 @@ use Rattle.text.specs.declared.digits.Read.the-variants.{Value, Nothing}
 use Rattle.text.specs.Quoted.{quoted}
 use Rattle.text.specs.Words.{begins}
 use Rattle.text.specs.Digits.{decimal, digitOf, decimalAt}
-use Rattle.sheet.specs.declared.edges.Corner.{Corner}
 use Rattle.sheet.specs.declared.edges.Edge.{Edge}
 use Rattle.sheet.specs.Sheet.{CornerFits, EdgeFits, AllFit, operationWord, operationLine, countLine, numberBytes, cornerBytes, edgeLine, edgeLines, layerBytes}
 use Rattle.sheet.specs.Reading.{Parsed, Got, Wrong, andThen, ended, run, numeral, ringOf, numberOf, cornerOf, edgeOf, onEdge, edgesOf, Counted, Count, Many, Malformed, over, countWith, countBy, countFrom, countOf, Whole, wholeBy, layerBy, layerOf, lineOf, operationOf}
@@ -57,12 +57,12 @@ module _ (s : List ℕ) (o : Operation) (t : List ℕ) where
 
 -- ---- edges
 
-pub corner-front : (p : Corner) (t : List ℕ) → CornerFits p → cornerOf (cornerBytes p ++ t) ≡ Got p t
+pub corner-front : (p : Point) (t : List ℕ) → CornerFits p → cornerOf (cornerBytes p ++ t) ≡ Got p t
 unfolding cornerOf cornerBytes andThen
 corner-front p t h =
     rw (append-assoc, number-front (p .x) (numberBytes (p .y) ++ t) (h .x), number-front (p .y) t (h .y))
 
-pub corner-split : (s : List ℕ) (p : Corner) (t : List ℕ) → cornerOf s ≡ Got p t → (s ≡ cornerBytes p ++ t) × CornerFits p
+pub corner-split : (s : List ℕ) (p : Point) (t : List ℕ) → cornerOf s ≡ Got p t → (s ≡ cornerBytes p ++ t) × CornerFits p
 unfolding cornerOf cornerBytes andThen
 corner-split s p t e = first (numberOf s) refl e
   where
@@ -78,7 +78,7 @@ corner-split s p t e = first (numberOf s) refl e
     first Wrong h f = let z : _≡_ {A = ℕ} 0 1 = cc in absurd (omega arith)
 
 -- a corner begins with a space
-spaced : (p : Corner) (t : List ℕ) → run (cornerBytes p ++ t) ≡ 0
+spaced : (p : Point) (t : List ℕ) → run (cornerBytes p ++ t) ≡ 0
 unfolding run cornerBytes numberBytes digitOf
 spaced p t = refl
 
@@ -88,7 +88,7 @@ edge-front e t h =
     rw (append-assoc (decimal (e .ring)) (cornerBytes (e .from) ++ (cornerBytes (e .to) ++ (10 ∷ []))) t, append-assoc (cornerBytes (e .from)) (cornerBytes (e .to) ++ (10 ∷ [])) t, append-assoc (cornerBytes (e .to)) (10 ∷ []) t, ring-front (e .ring) (cornerBytes (e .from) ++ (cornerBytes (e .to) ++ (10 ∷ t))) (spaced (e .from) (cornerBytes (e .to) ++ (10 ∷ t))) (h .ring), corner-front (e .from) (cornerBytes (e .to) ++ (10 ∷ t)) (h .from), corner-front (e .to) (10 ∷ t) (h .to), word-front (10 ∷ []) t)
 
 -- a ring, two corners and the line feed, put together
-joined : (ring : ℕ) (from to : Corner) (s t u v : List ℕ) → s ≡ decimal ring ++ t → t ≡ cornerBytes from ++ u → u ≡ cornerBytes to ++ v → v ≡ 10 ∷ drop 1 v → s ≡ edgeLine (record { ring = ring; from = from; to = to }) ++ drop 1 v
+joined : (ring : ℕ) (from to : Point) (s t u v : List ℕ) → s ≡ decimal ring ++ t → t ≡ cornerBytes from ++ u → u ≡ cornerBytes to ++ v → v ≡ 10 ∷ drop 1 v → s ≡ edgeLine (record { ring = ring; from = from; to = to }) ++ drop 1 v
 unfolding edgeLine
 joined ring from to s t u v h i j k =
     h
@@ -99,7 +99,7 @@ pub edge-split : (s : List ℕ) (e : Edge) (t : List ℕ) → edgeOf s ≡ Got e
 unfolding edgeOf andThen ended
 edge-split s e t r = ring (ringOf s) refl r
   where
-    line : (n : ℕ) (a : List ℕ) → ringOf s ≡ Got n a → (from : Corner) (b : List ℕ) → cornerOf a ≡ Got from b → (to : Corner) (c : List ℕ) → cornerOf b ≡ Got to c → (x : Bool) → begins (10 ∷ []) c ≡ x → cond x (Got (record { ring = n; from = from; to = to }) (drop 1 c)) Wrong ≡ Got e t → (s ≡ edgeLine e ++ t) × EdgeFits e
+    line : (n : ℕ) (a : List ℕ) → ringOf s ≡ Got n a → (from : Point) (b : List ℕ) → cornerOf a ≡ Got from b → (to : Point) (c : List ℕ) → cornerOf b ≡ Got to c → (x : Bool) → begins (10 ∷ []) c ≡ x → cond x (Got (record { ring = n; from = from; to = to }) (drop 1 c)) Wrong ≡ Got e t → (s ≡ edgeLine e ++ t) × EdgeFits e
     line n a h from b i to c j true k f =
         let p = ring-split s n a h in
         let q = corner-split a from b i in
@@ -107,11 +107,11 @@ edge-split s e t r = ring (ringOf s) refl r
         carried (λ g u. (s ≡ edgeLine g ++ u) × EdgeFits g) (record { ring = n; from = from; to = to }) e (drop 1 c) t f (joined n from to s a b c (p .0) (q .0) (w .0) (word-split (10 ∷ []) c k), record { ring = p .1; from = q .1; to = w .1 })
     line n a h from b i to c j false k f = let z : _≡_ {A = ℕ} 0 1 = cc in absurd (omega arith)
 
-    to : (n : ℕ) (a : List ℕ) → ringOf s ≡ Got n a → (from : Corner) (b : List ℕ) → cornerOf a ≡ Got from b → (m : Parsed Corner) → cornerOf b ≡ m → andThen m (λ to v. ended (record { ring = n; from = from; to = to }) v) ≡ Got e t → (s ≡ edgeLine e ++ t) × EdgeFits e
+    to : (n : ℕ) (a : List ℕ) → ringOf s ≡ Got n a → (from : Point) (b : List ℕ) → cornerOf a ≡ Got from b → (m : Parsed Point) → cornerOf b ≡ m → andThen m (λ to v. ended (record { ring = n; from = from; to = to }) v) ≡ Got e t → (s ≡ edgeLine e ++ t) × EdgeFits e
     to n a h from b i (Got q c) j f = line n a h from b i q c j (begins (10 ∷ []) c) refl f
     to n a h from b i Wrong j f = let z : _≡_ {A = ℕ} 0 1 = cc in absurd (omega arith)
 
-    from : (n : ℕ) (a : List ℕ) → ringOf s ≡ Got n a → (m : Parsed Corner) → cornerOf a ≡ m → andThen m (λ from u. andThen (cornerOf u) (λ to v. ended (record { ring = n; from = from; to = to }) v)) ≡ Got e t → (s ≡ edgeLine e ++ t) × EdgeFits e
+    from : (n : ℕ) (a : List ℕ) → ringOf s ≡ Got n a → (m : Parsed Point) → cornerOf a ≡ m → andThen m (λ from u. andThen (cornerOf u) (λ to v. ended (record { ring = n; from = from; to = to }) v)) ≡ Got e t → (s ≡ edgeLine e ++ t) × EdgeFits e
     from n a h (Got p b) i f = to n a h p b i (cornerOf b) refl f
     from n a h Wrong i f = let z : _≡_ {A = ℕ} 0 1 = cc in absurd (omega arith)
 

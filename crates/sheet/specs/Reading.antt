@@ -6,13 +6,13 @@ use mathlib.Core.List.{List, [], _∷_}
 use Prim.Native.Nat.{ℕ, zero, suc, _+_, _-_}
 use lib.Dec.{eqb, ltb}
 use lib.ListN.{length, drop}
+use Rattle.numbers.specs.declared.Point.{Point}
 use Rattle.class.specs.declared.Operation.{Operation}
 use Rattle.class.specs.declared.Operation.the-variants.{Intersection, Difference, Union, Xor}
 use Rattle.text.specs.declared.digits.Read.{Read}
 use Rattle.text.specs.declared.digits.Read.the-variants.{Value, Nothing}
 use Rattle.text.specs.Words.{begins}
 use Rattle.text.specs.Digits.{digitOf, hexAt, decimalAt}
-use Rattle.sheet.specs.declared.edges.Corner.{Corner}
 use Rattle.sheet.specs.declared.edges.Edge.{Edge}
 use Rattle.sheet.specs.Sheet.{Sheet, operationLine, subjectWord, clipWord, mostEdges}
 
@@ -60,7 +60,7 @@ numberOf s = cond (begins (32 ∷ []) s) (got (hexAt s 1) (drop 17 s)) Wrong
 
 -- ---- edges
 
-unfoldable pub cornerOf : List ℕ → Parsed Corner
+unfoldable pub cornerOf : List ℕ → Parsed Point
 cornerOf s = andThen (numberOf s) (λ x t. andThen (numberOf t) (λ y u. Got (record { x = x; y = y }) u))
 
 unfoldable pub edgeOf : List ℕ → Parsed Edge

@@ -2,11 +2,11 @@
 use mathlib.Core.List.{List, [], _∷_, _++_}
 use Prim.Native.Nat.{ℕ, _+_, _≤_, _<_}
 use lib.ListN.{length}
+use Rattle.numbers.specs.declared.Point.{Point}
 use Rattle.class.specs.declared.Operation.{Operation}
 use Rattle.class.specs.declared.Operation.the-variants.{Intersection, Difference, Union, Xor}
 use Rattle.text.specs.Digits.{decimal, hex}
 use Rattle.text.specs.Quoted.{quoted}
-use Rattle.sheet.specs.declared.edges.Corner.{Corner}
 use Rattle.sheet.specs.declared.edges.Edge.{Edge}
 
 -- an edge has its ring and two corners, a corner the bits of its two numbers
@@ -17,7 +17,7 @@ pub record Sheet : Type 0 where
 
 -- ---- what the numbers may be
 
-pub record CornerFits (p : Corner) : Type 0 where
+pub record CornerFits (p : Point) : Type 0 where
   pub x : p .x < 18446744073709551616
   pub y : p .y < 18446744073709551616
 
@@ -62,7 +62,7 @@ countLine word n = word ++ (decimal n ++ (10 ∷ []))
 unfoldable pub numberBytes : ℕ → List ℕ
 numberBytes w = 32 ∷ hex w
 
-unfoldable pub cornerBytes : Corner → List ℕ
+unfoldable pub cornerBytes : Point → List ℕ
 cornerBytes p = numberBytes (p .x) ++ numberBytes (p .y)
 
 unfoldable pub edgeLine : Edge → List ℕ

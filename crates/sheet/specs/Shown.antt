@@ -3,8 +3,8 @@ use mathlib.Core.List.{List, []}
 use mathlib.Core.Path.{_≡_}
 use Prim.Native.Nat.{ℕ}
 use lib.ListN.{length, drop}
+use Rattle.numbers.specs.declared.Point.{Point}
 use Rattle.class.specs.declared.Operation.{Operation}
-use Rattle.sheet.specs.declared.edges.Corner.{Corner}
 use Rattle.sheet.specs.declared.edges.Edge.{Edge}
 use Rattle.sheet.specs.declared.numerals.Ring as ring
 use Rattle.sheet.specs.declared.edges.ReadCorner as corner
@@ -21,7 +21,7 @@ shownRing b (ring.the-variants.Number v at) = Got v (drop at b)
 shownRing b ring.the-variants.Wrong = Wrong
 
 -- a corner's length is known
-abbrev pub shownCorner : List ℕ → corner.ReadCorner → Parsed Corner
+abbrev pub shownCorner : List ℕ → corner.ReadCorner → Parsed Point
 shownCorner s (corner.the-variants.Bits p) = Got p (drop 34 s)
 shownCorner s corner.the-variants.Wrong = Wrong
 

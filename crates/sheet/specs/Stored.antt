@@ -4,7 +4,6 @@ use mathlib.Core.List.{List, [], _∷_, _++_, map}
 use Prim.Native.Nat.{ℕ, _%_}
 use lib.ListN.{length, getD}
 use lib.Seq.{sets}
-use lib.Ieee.{Float, binary64, ofBits}
 use Rattle.sheet.specs.declared.Told.{Told}
 use Rattle.sheet.specs.declared.Told.the-variants.{Read, Refused as ToldRefused}
 use Rattle.sheet.specs.declared.edges.Edge.{Edge}
@@ -39,16 +38,15 @@ leaveRows (Refused number line) subject clip = leftRows (ToldRefused (record { n
 
 -- ---- in the form that loading takes
 
-unfoldable pub endsOf : Edge → List Float
-endsOf e =
-    ofBits binary64 (e .from .x) ∷ ofBits binary64 (e .from .y) ∷ ofBits binary64 (e .to .x) ∷ ofBits binary64 (e .to .y) ∷ []
+unfoldable pub endsOf : Edge → List ℕ
+endsOf e = e .from .x ∷ e .from .y ∷ e .to .x ∷ e .to .y ∷ []
 
 -- the ring, and 1 for the subject
 unfoldable pub labelsOf : ℕ → Edge → List ℕ
 labelsOf subject e = e .ring ∷ subject ∷ []
 
 -- the same of a row, whose ring is the last 32 bits of its word
-unfoldable pub endsOfRow : List ℕ → List Float
+unfoldable pub endsOfRow : List ℕ → List ℕ
 endsOfRow r = endsOf (edgeOfRow r)
 
 unfoldable pub labelsOfRow : ℕ → List ℕ → List ℕ
@@ -56,13 +54,13 @@ labelsOfRow subject r = getD r 4 0 % 4294967296 ∷ subject ∷ []
 
 pub record After : Type 0 where
   pub answer : Told
-  pub ends : List (List Float)
+  pub ends : List (List ℕ)
   pub labels : List (List ℕ)
 
-abbrev pub left : Told → List (List Float) → List (List ℕ) → After
+abbrev pub left : Told → List (List ℕ) → List (List ℕ) → After
 left answer ends labels = record { answer = answer; ends = ends; labels = labels }
 
-unfoldable pub leave : Reading → List (List Float) → List (List ℕ) → After
+unfoldable pub leave : Reading → List (List ℕ) → List (List ℕ) → After
 leave (Accepted s) ends labels =
     left (Read (s .operation) (length (s .subject)) (length (s .clip))) (sets ends 0 (map endsOf (s .subject) ++ map endsOf (s .clip)))
     (sets labels 0 (map (labelsOf 1) (s .subject) ++ map (labelsOf 0) (s .clip)))

@@ -5,6 +5,7 @@ ghost use Rattle.sheet.specs.Reading.{got, numberOf, cornerOf, edgeOf};
 ghost use Rattle.sheet.specs.Shown.{shownCorner, shownEdge};
 use crate::numerals::Ring;
 use crate::numerals::read_ring;
+use numbers::Point;
 use text::digits::Read;
 use text::digits::read_hex;
 use text::words::after;
@@ -15,20 +16,14 @@ const NUMBER: usize = 17;
 
 const CORNER: usize = 34;
 
-// By the bits of its numbers.
-pub struct Corner {
-    pub x: u64,
-    pub y: u64,
-}
-
 pub struct Edge {
     pub ring: u32,
-    pub from: Corner,
-    pub to: Corner,
+    pub from: Point,
+    pub to: Point,
 }
 
 enum ReadCorner {
-    Bits(Corner),
+    Bits(Point),
     Wrong,
 }
 
@@ -58,7 +53,7 @@ fn read_corner(s: &[u8], at: usize) -> ReadCorner
     let Read::Value(y) = read_number(s, after(at, NUMBER, s.len())) else {
         return ReadCorner::Wrong;
     };
-    ReadCorner::Bits(Corner { x, y })
+    ReadCorner::Bits(Point { x, y })
 }
 
 // The edge whose line begins at `at`.

@@ -105,7 +105,7 @@ pub fn read_rows(bytes: &[u8], subject: &mut [[u64; 5]], clip: &mut [[u64; 5]]) 
 }
 
 // .. in the form that loading takes.
-pub fn read_sheet(bytes: &[u8], ends: &mut [[f64; 4]], labels: &mut [[u32; 2]]) -> Told
+pub fn read_sheet(bytes: &[u8], ends: &mut [[u64; 4]], labels: &mut [[u32; 2]]) -> Told
     ensures { λ r. ⌜ left r (now (ends .exit)) (now (labels .exit)) ≡ leave (readSheet (now (bytes .entry))) (now (ends .entry)) (now (labels .entry)) ⌝ }
 {
     let mut own = no_rows();

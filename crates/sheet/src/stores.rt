@@ -1,28 +1,21 @@
-// Rows of words stored in the form that loading takes: the two ends as numbers, and the ring with 1 for the subject.
+// Rows of words stored in the form that loading takes: the two ends as they are, and the ring with 1 for the subject.
 ghost use mathlib.Core.Path.{_≡_};
 ghost use mathlib.Core.List.{map};
 ghost use Prim.Native.Nat.{_+_};
 ghost use lib.ListN.{set};
 ghost use lib.Seq.{sets};
 ghost use Rattle.sheet.specs.Stored.{endsOfRow, labelsOfRow};
-use text::bits::number_of;
 use text::words::is_below;
 
 // A ring is below this.
 const RINGS: u64 = 0x1_0000_0000;
 
 // Stores a row's ends k places after `at`.
-fn put_ends(ends: &mut [[f64; 4]], at: usize, k: usize, row: [u64; 5])
+fn put_ends(ends: &mut [[u64; 4]], at: usize, k: usize, row: [u64; 5])
     ensures { λ _. ⌜ now (ends .exit) ≡ set (now (ends .entry)) (at + k) (endsOfRow row) ⌝ }
 {
-    let four = [
-        number_of(row[0]),
-        number_of(row[1]),
-        number_of(row[2]),
-        number_of(row[3]),
-    ];
     if is_below(at, k, ends.len()) {
-        ends[at + k] = four;
+        ends[at + k] = [row[0], row[1], row[2], row[3]];
     }
 }
 
@@ -40,7 +33,7 @@ pub fn store_rows(
     rows: &[[u64; 5]],
     subject: u32,
     at: usize,
-    ends: &mut [[f64; 4]],
+    ends: &mut [[u64; 4]],
     labels: &mut [[u32; 2]],
 )
     ensures { λ _. ⌜ now (ends .exit) ≡ sets (now (ends .entry)) at (map endsOfRow (now (rows .entry))) ⌝ }

@@ -5,7 +5,6 @@ use mathlib.Core.Logic.{⊎-elim}
 use mathlib.Core.Bool.{true}
 use mathlib.Core.List.{List}
 use Prim.Native.Nat.{ℕ}
-use lib.Ieee.{Float}
 use Rattle.refusals.specs.declared.Refusal.{Refusal}
 use Rattle.events.specs.Binary64.{atBinary64}
 use Rattle.events.specs.Pool.{Pool, size, rowAt}
@@ -57,7 +56,7 @@ lent-by number told lent e = rw e
 
 -- ---- loading
 
-pub load-as-lent : (ends : List (List Float)) (labels : List (List ℕ)) (p : Pool) (lent : ℕ) (r : Refusal) → Load.accept ends labels p ≡ Struck r
+pub load-as-lent : (ends : List (List ℕ)) (labels : List (List ℕ)) (p : Pool) (lent : ℕ) (r : Refusal) → Load.accept ends labels p ≡ Struck r
     → LoadAsLent (Load.load ends labels p) p lent
 unfolding Load.load Load.afterChecks loadUsed
 load-as-lent ends labels p lent r e = rw e (record { pool = refl; used = refl })

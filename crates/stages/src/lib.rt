@@ -24,9 +24,9 @@ use sweep::subdivide;
 
 #[no_mangle]
 pub extern "C" fn bezorika_load(
-    ends: &[[f64; 4]],
+    ends: &[[u64; 4]],
     labels: &[[u32; 2]],
-    points: &mut [[f64; 2]],
+    points: &mut [[u64; 2]],
     marks: &mut [[u32; 12]],
     used: &mut u32,
     place: &mut u64,
@@ -97,7 +97,7 @@ fn tell_end(outcome: sweep::Outcome, place: &mut u64) -> u64
 
 #[no_mangle]
 pub extern "C" fn bezorika_subdivide(
-    points: &mut [[f64; 2]],
+    points: &mut [[u64; 2]],
     marks: &mut [[u32; 12]],
     loaded: u32,
     operation: u32,
@@ -135,10 +135,10 @@ fn tell_connection(outcome: connection::Outcome, place: &mut u64) -> u64
 
 #[no_mangle]
 pub extern "C" fn bezorika_connect(
-    points: &[[f64; 2]],
+    points: &[[u64; 2]],
     marks: &mut [[u32; 12]],
     list: &[u32],
-    corners: &mut [[f64; 2]],
+    corners: &mut [[u64; 2]],
     contours: &mut [[u32; 6]],
     holes: &mut [u32],
     counts: &mut [u32; 4],

@@ -12,7 +12,6 @@ use borrow.Author.Tests.{le-ltb, lt-ltb, eq-eqb, ne-eqb, le-leb, lt-leb}
 use lib.ListN.{length, getD, set, length-append, replicate, List·getD-append, List·getD-eq-default}
 use lib.Seq.{sets, sets-eq}
 use lib.Dec.{eqb, ltb}
-use lib.Ieee.{Float}
 use Rattle.events.specs.Coordinates.{same}
 use Rattle.events.specs.Binary64.{atBinary64}
 use Rattle.checks.specs.Checks.{maxEvents}
@@ -127,13 +126,13 @@ module _ (t : Rows) where
 
 -- ---- all positions
 
-sheets : {m m′ : List ℕ} {o o′ : List (List Float)} {k k′ : List (List ℕ)} {s s′ : Turn} → m ≡ m′ → o ≡ o′ → k ≡ k′ → s ≡ s′ → sheet m o k s ≡ sheet m′ o′ k′ s′
+sheets : {m m′ : List ℕ} {o o′ : List (List ℕ)} {k k′ : List (List ℕ)} {s s′ : Turn} → m ≡ m′ → o ≡ o′ → k ≡ k′ → s ≡ s′ → sheet m o k s ≡ sheet m′ o′ k′ s′
 sheets a b c d = rw (a, b, c, d)
 
 turns-eq : {c c′ e e′ u u′ : ℕ} (s p : ℕ) → c ≡ c′ → e ≡ e′ → u ≡ u′ → turnOf c e u s p ≡ turnOf c′ e′ u′ s p
 turns-eq s p a b d = rw (a, b, d)
 
-module _ (t : Rows) (near : Bool) (out : List (List Float)) (ns : List (List ℕ)) where
+module _ (t : Rows) (near : Bool) (out : List (List ℕ)) (ns : List (List ℕ)) where
   made-is : (ms : List ℕ) (cs : List Contour) (i : ℕ) (p : Option ℕ) (d : ℕ)
       → madeAt t near (sheetOf t out ns ms cs 0 0) i (codeOf p) d ≡ sheetOf t out ns (marksOf t (length cs) ms (trailFrom t near (length cs) i ms)) (cs ++ (contour (trailFrom t near (length cs) i ms) p d ∷ [])) 0 0
   unfolding madeAt ended sheetOf walkedFrom walkedAlong nestOf
@@ -216,7 +215,7 @@ module _ (t : Rows) (near : Bool) (out : List (List Float)) (ns : List (List ℕ
 
 -- ---- the whole
 
-module _ (t : Rows) (out : List (List Float)) (ns : List (List ℕ)) where
+module _ (t : Rows) (out : List (List ℕ)) (ns : List (List ℕ)) where
   module _ (ms : List ℕ) where
     pub traced-long : maxEvents < size t → (s : Turn) → s ≡ turnOf 0 0 0 0 0 → sheet ms out ns s ≡ tracedOn t ms out ns
     unfolding tracedOn fits

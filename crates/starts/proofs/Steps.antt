@@ -9,7 +9,6 @@ use borrow.Author.Tests.{le-ltb, lt-ltb, eq-eqb, ne-eqb}
 use lib.ListN.{length, getD, set, replicate, length-replicate, List·getD-eq-default}
 use lib.Seq.{sets, sets-eq, getD-set-same, getD-set-other, set-out, drop-length}
 use lib.Dec.{eqb, ltb}
-use lib.Ieee.{Float}
 use Rattle.rows.specs.declared.End.{End}
 use Rattle.rows.specs.Rows.{Rows, size, endAt}
 use Rattle.rows.proofs.Lists.{getD-any}
@@ -107,13 +106,13 @@ shallow-up ns c b h s j = omega (arith, s j)
 
 -- ---- one contour
 
-pub made : (t : Rows) (near : Bool) (ms ms′ : List ℕ) (out out′ : List (List Float)) (ns ns′ : List (List ℕ)) (s : Turn) (i p d u : ℕ) (w : Walk)
+pub made : (t : Rows) (near : Bool) (ms ms′ : List ℕ) (out out′ : List (List ℕ)) (ns ns′ : List (List ℕ)) (s : Turn) (i p d u : ℕ) (w : Walk)
     → toured ms′ out′ w ≡ walkedFrom t near (s .count) i (s .end) ms out → ns′ ≡ set ns (s .count) (s .end ∷ w .end ∷ p ∷ d ∷ [])
     → u ≡ s .unclosed + cond (w .unclosed) 1 0 → sheet ms′ out′ ns′ (turnOf (s .count + 1) (w .end) u 0 0) ≡ madeAt t near (sheet ms out ns s) i p d
 unfolding madeAt ended
 made t near ms ms′ out out′ ns ns′ s i p d u w e k n = rw (k, n) (ap (ended (sheet ms out ns s) p d) e)
 
-pub walk-end : (t : Rows) (near : Bool) (c i first : ℕ) (ms ms′ : List ℕ) (out out′ : List (List Float)) (w : Walk) → toured ms′ out′ w ≡ walkedFrom t near c i first ms out → w .end ≤ first + size t + 1
+pub walk-end : (t : Rows) (near : Bool) (c i first : ℕ) (ms ms′ : List ℕ) (out out′ : List (List ℕ)) (w : Walk) → toured ms′ out′ w ≡ walkedFrom t near c i first ms out → w .end ≤ first + size t + 1
 unfolding walkedFrom walkedAlong
 walk-end t near c i first ms ms′ out out′ w e = omega (arith, ap (λ (x : Toured). x .told .end) e, corners-few t near c i ms)
 
@@ -134,7 +133,7 @@ deep-set ns c b x h s j = go (decLt j (c + 1)) (ℕ-discrete j c) (decLt c (leng
         let v : getD (getD ns j blank) 3 0 ≤ b = rw (lt-ltb j c (omega arith)) at u in
         rw (lt-ltb j (c + 1) l, getD-set-other ns c j x blank e) (omega (arith, v))
 
-pub made-within : (t : Rows) (near : Bool) (ms ms′ : List ℕ) (out out′ : List (List Float)) (ns ns′ : List (List ℕ)) (s r : Turn) (i p d : ℕ)
+pub made-within : (t : Rows) (near : Bool) (ms ms′ : List ℕ) (out out′ : List (List ℕ)) (ns ns′ : List (List ℕ)) (s r : Turn) (i p d : ℕ)
     → sheet ms′ out′ ns′ r ≡ madeAt t near (sheet ms out ns s) i p d → d ≤ i + 1 → Within s ns i → size t ≤ 4096 → Within r ns′ (i + 1)
 unfolding madeAt ended
 made-within t near ms ms′ out out′ ns ns′ s r i p d m h w n =
@@ -156,7 +155,7 @@ within-more s ns i r a b u w =
 
 -- ---- one position
 
-module _ (t : Rows) (near : Bool) (ms : List ℕ) (out : List (List Float)) (ns : List (List ℕ)) (s : Turn) (i m : ℕ) (e : m ≡ markIn ms i) where
+module _ (t : Rows) (near : Bool) (ms : List ℕ) (out : List (List ℕ)) (ns : List (List ℕ)) (s : Turn) (i m : ℕ) (e : m ≡ markIn ms i) where
   pub start-pass : (m ≡ 0 → ⊥) → sheet ms out ns s ≡ startAt t near (sheet ms out ns s) i
   unfolding startAt
   start-pass h = rw (← e, ne-eqb m 0 h)
@@ -197,7 +196,7 @@ pub within-none : (ns : List (List ℕ)) (s : Turn) → s ≡ turnOf 0 0 0 0 0 �
 unfolding nestAt
 within-none ns s e = rw e (record { count = omega arith; unclosed = omega arith; end = omega arith; deep = λ j. rw (le-ltb j 0 (omega arith)) (omega arith) })
 
-pub start-of : (t : Rows) (near : Bool) (n : ℕ) (ms : List ℕ) (out : List (List Float)) (ns : List (List ℕ)) (s : Turn) → s ≡ turnOf 0 0 0 0 0
+pub start-of : (t : Rows) (near : Bool) (n : ℕ) (ms : List ℕ) (out : List (List ℕ)) (ns : List (List ℕ)) (s : Turn) → s ≡ turnOf 0 0 0 0 0
     → starts t near (n - 0) 0 (sheet ms out ns s) ≡ starts t near n 0 (sheet ms out ns (turnOf 0 0 0 0 0))
 start-of t near n ms out ns s e = let q : n - 0 ≡ n = omega arith in rw (e, q)
 

@@ -7,7 +7,6 @@ use Prim.Native.Nat.{ℕ, _+_}
 use lib.ListN.{length}
 use lib.Dec.{eqb, leb}
 use lib.Seq.{sets}
-use lib.Ieee.{Float}
 use Rattle.events.specs.Coordinates.{same}
 use Rattle.events.specs.Binary64.{atBinary64}
 use Rattle.checks.specs.Checks.{maxEvents}
@@ -20,11 +19,11 @@ use Rattle.starts.specs.declared.Turn.{Turn}
 -- the lent arrays, and what is told
 pub record Sheet : Type 0 where
   pub walked : List ℕ
-  pub corners : List (List Float)
+  pub corners : List (List ℕ)
   pub nests : List (List ℕ)
   pub turn : Turn
 
-abbrev pub sheet : List ℕ → List (List Float) → List (List ℕ) → Turn → Sheet
+abbrev pub sheet : List ℕ → List (List ℕ) → List (List ℕ) → Turn → Sheet
 sheet m o k s = record { walked = m; corners = o; nests = k; turn = s }
 
 abbrev pub turnOf : ℕ → ℕ → ℕ → ℕ → ℕ → Turn
@@ -37,7 +36,7 @@ codeOf (some p) = p + 1
 
 module _ (t : Rows) where
   -- the corners of contours, one after the other
-  unfoldable pub allCorners : List Contour → List (List Float)
+  unfoldable pub allCorners : List Contour → List (List ℕ)
   allCorners [] = []
   allCorners (k ∷ cs) = cornersOf t (k .trail) ++ allCorners cs
 
@@ -53,11 +52,11 @@ module _ (t : Rows) where
   unclosedCount cs = length (keep (λ k. unclosedTrail t (k .trail)) cs)
 
   -- the arrays that were `out` and `ns`, once these contours are in them
-  unfoldable pub sheetOf : List (List Float) → List (List ℕ) → List ℕ → List Contour → ℕ → ℕ → Sheet
+  unfoldable pub sheetOf : List (List ℕ) → List (List ℕ) → List ℕ → List Contour → ℕ → ℕ → Sheet
   sheetOf out ns ms cs stop at =
       sheet ms (sets out 0 (allCorners cs)) (sets ns 0 (nestsFrom 0 cs)) (turnOf (length cs) (length (allCorners cs)) (unclosedCount cs) stop at)
 
-  unfoldable pub answerOf : List (List Float) → List (List ℕ) → Answer → Sheet
+  unfoldable pub answerOf : List (List ℕ) → List (List ℕ) → Answer → Sheet
   answerOf out ns (done ms cs) = sheetOf out ns ms cs 0 0
   answerOf out ns (halted number i ms cs) = sheetOf out ns ms cs number i
 
@@ -65,5 +64,5 @@ module _ (t : Rows) where
   unfoldable pub fits : List ℕ → List (List ℕ) → Bool
   fits ms ns = leb (size t) maxEvents && (eqb (length ms) (size t) && leb (size t) (length ns))
 
-  unfoldable pub tracedOn : List ℕ → List (List Float) → List (List ℕ) → Sheet
+  unfoldable pub tracedOn : List ℕ → List (List ℕ) → List (List ℕ) → Sheet
   tracedOn ms out ns = cond (fits ms ns) (answerOf out ns (trace (same atBinary64) (size t) (tableRow t))) (sheet ms out ns (turnOf 0 0 0 0 0))

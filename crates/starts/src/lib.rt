@@ -53,9 +53,9 @@ fn clear(walked: &mut [u32])
 // Every position in turn, until a refusal.
 fn all_starts(
     rows: &[[u32; 4]],
-    at: &[[f64; 2]],
+    at: &[[u64; 2]],
     walked: &mut [u32],
-    corners: &mut [[f64; 2]],
+    corners: &mut [[u64; 2]],
     nests: &mut [[u32; 4]],
     near: bool,
 ) -> Turn
@@ -78,9 +78,9 @@ fn all_starts(
 // All contours. Where the table is too long, or the marks are not as many as its rows, or the nests fewer, nothing is done.
 pub fn trace_starts(
     rows: &[[u32; 4]],
-    at: &[[f64; 2]],
+    at: &[[u64; 2]],
     walked: &mut [u32],
-    corners: &mut [[f64; 2]],
+    corners: &mut [[u64; 2]],
     nests: &mut [[u32; 4]],
 ) -> Turn
     ensures { λ r. ⌜ sheet (now (walked .exit)) (now (corners .exit)) (now (nests .exit)) r ≡ tracedOn (lent (now (rows .entry)) (now (at .entry))) (now (walked .entry)) (now (corners .entry)) (now (nests .entry)) ⌝ }

@@ -36,9 +36,9 @@ fn counted(n: u32, one_more: bool) -> u32
 // The contour from i.
 fn make(
     rows: &[[u32; 4]],
-    at: &[[f64; 2]],
+    at: &[[u64; 2]],
     walked: &mut [u32],
-    corners: &mut [[f64; 2]],
+    corners: &mut [[u64; 2]],
     nests: &mut [[u32; 4]],
     near: bool,
     s: Turn,
@@ -65,9 +65,9 @@ fn make(
 
 pub fn start_at(
     rows: &[[u32; 4]],
-    at: &[[f64; 2]],
+    at: &[[u64; 2]],
     walked: &mut [u32],
-    corners: &mut [[f64; 2]],
+    corners: &mut [[u64; 2]],
     nests: &mut [[u32; 4]],
     near: bool,
     s: Turn,

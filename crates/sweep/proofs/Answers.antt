@@ -10,7 +10,7 @@ use native.Mathlib.Omega.{arith}
 use lib.ListN.{length, take, drop}
 use lib.Seq.{sets, take-append-seam, drop-append-seam}
 use Rattle.lists.proofs.Fronts.{sets-front, first-are}
-use Rattle.numbers.specs.declared.Coordinate.{Coordinate}
+use Rattle.numbers.specs.declared.Point.{Point}
 use Rattle.events.specs.Binary64.{atBinary64, inMode}
 use Rattle.events.specs.Pool.{Pool, stored}
 use Rattle.events.proofs.Stored.{pool-stored}
@@ -70,7 +70,7 @@ module _ (op : Operation) (mode : ℕ) (p : Pool) (n : ℕ) (lent : List ℕ) wh
         by (Stops.Refused r) s e = absurd (let z : _≡_ {A = ℕ} 0 1 = cc in omega arith)
 
   -- every place in use is listed, where no point lies past all that matters
-  pub all-listed : ((a b : Option Coordinate) (q : Coordinate) → isPast atBinary64 op a b q ≡ false) → subdividePool op mode p n lent .answer .outcome ≡ Done
+  pub all-listed : ((a b : Option Point) (q : Point) → isPast atBinary64 op a b q ≡ false) → subdividePool op mode p n lent .answer .outcome ≡ Done
       → (r : ℕ) → r < subdividePool op mode p n lent .answer .used → List·Memᴰ r (take (subdividePool op mode p n lent .answer .taken) (subdividePool op mode p n lent .taken))
   unfolding subdividePool afterChecks afterRun answerOf asLent
   all-listed never d = go (accept p n lent) refl

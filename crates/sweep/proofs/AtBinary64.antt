@@ -7,7 +7,7 @@ use native.Mathlib.Nat.{zero-add}
 use native.Mathlib.Omega.{arith}
 use lib.ListN.{length, take, replicate}
 use lib.Seq.{length-take-le, take-take}
-use Rattle.numbers.specs.declared.Coordinate.{Coordinate}
+use Rattle.numbers.specs.declared.Point.{Point}
 use Rattle.events.specs.declared.Link.the-variants.{To}
 use Rattle.events.specs.Binary64.{atBinary64}
 use Rattle.events.specs.Coordinates.{Crossing}
@@ -91,7 +91,7 @@ module _ {p : Pool} {w : List Bool} {queue : List ℕ} {t : Turn} (q : Queues p 
 
   -- ---- after a step in which event e is taken
 
-  module _ (crossing : Crossing Coordinate) (op : Operation) (past : Coordinate → Bool) (e : ℕ) (n : next atBinary64 stored here ≡ To e) where
+  module _ (crossing : Crossing Point) (op : Operation) (past : Point → Bool) (e : ℕ) (n : next atBinary64 stored here ≡ To e) where
     abbrev there : State Pool
     there = turn atBinary64 stored crossing op past (takes here e (isTied atBinary64 stored here e)) e
 

@@ -12,8 +12,8 @@ use Rattle.events.proofs.Stored.{Stored}
 use Rattle.events.proofs.Looks.{Blanks, look-in, used-or-blank}
 use Rattle.events.proofs.Faces.{Face, face-store}
 use Rattle.order.specs.Order.{onSide}
-use Rattle.order.specs.Keys.{keyOf, keyUsed}
-use Rattle.order.proofs.Laws.{Valid, ahead-asym}
+use Rattle.order.specs.Keys.{keyOf}
+use Rattle.order.proofs.Laws.{ahead-asym}
 use Rattle.checks.specs.Checks.{inOrder}
 use Rattle.checks.specs.Sound as Checked
 use Rattle.division.specs.declared.Division.the-variants.{Done}
@@ -78,9 +78,6 @@ module _ {P S : Type 0} {C : Coordinates P} {K : Store P S} (M : MoveLaws C) (st
     abbrev row : ℕ → Event P
     row = look K s used
 
-    fine : (r : ℕ) → r < used → M .order .Fine (row r .point)
-    fine r l = M .fine (row r .point) (g .sound r l .fit)
-
     -- the partner of a left end is a right end
     right-end : (r : ℕ) → r < used → row r .left ≡ true → row (row r .partner) .left ≡ false
     unfolding onSide keyOf key
@@ -99,7 +96,7 @@ module _ {P S : Type 0} {C : Coordinates P} {K : Store P S} (M : MoveLaws C) (st
         forth = rw h at (own .side)
 
         not-back : ahead C (row o .point) (row r .point) ≡ false
-        not-back = ahead-asym (M .order) (row r .point) (row o .point) (fine r l) (fine o (own .paired .other)) forth
+        not-back = ahead-asym (M .order) (row r .point) (row o .point) forth
 
         go : (b : Bool) → row o .left ≡ b → b ≡ false
         go false q = refl
@@ -107,11 +104,10 @@ module _ {P S : Type 0} {C : Coordinates P} {K : Store P S} (M : MoveLaws C) (st
             let back : ahead C (row o .point) (row (row o .partner) .point) ≡ true = rw q at (other .side) in
             absurd (true≢false (sym back ∙ ap (λ k. ahead C (row o .point) (row k .point)) (own .paired .back) ∙ not-back))
 
-    pub segment : (i : ℕ) → row i .left ≡ true → Segment C row used i
+    pub segment : (i : ℕ) → row i .left ≡ true → Segment row used i
     segment i h =
         let l = left-in-use s used i h in
-        let own = g .sound i l in
-        record { paired = own .paired; right = right-end i l h; fit = own .fit; fit-other = g .sound (row i .partner) (own .paired .other) .fit }
+        record { paired = g .sound i l .paired; right = right-end i l h }
 
   cut-fit : (l r c : P) → misses C l r c ≡ false → C .fit c ≡ true
   unfolding misses
@@ -186,12 +182,3 @@ module _ {P S : Type 0} {C : Coordinates P} {K : Store P S} (M : MoveLaws C) (st
   unfolding sound
   sound-kept crossing =
       used-kept C K crossing (λ n s. Good C K s n) st (λ n s g. g .fits) (λ n s i e g l f. good-put s n i e g f) (λ n s i p d g h. good-divided s n i p g d h)
-
-  -- ---- the order on what is in use
-
-  module _ (s : S) (used : ℕ) (g : Good C K s used) where
-    pub valid : (r : ℕ) → r < used → Valid (M .order) (keyUsed K s used r)
-    unfolding keyUsed keyOf key
-    valid r l =
-        let own = g .sound r l in
-        record { placed = record { point = fine s used g r l; mate = fine s used g (look K s used r .partner) (own .paired .other) }; side = own .side }

@@ -33,7 +33,6 @@ use Rattle.sweep.specs.Lined.{Good, Lined}
 use Rattle.sweep.proofs.Flags.{down, all-flagged}
 use Rattle.sweep.proofs.Growth.{beside, turn-size}
 use Rattle.sweep.proofs.Kept.{store-turn}
-use Rattle.sweep.proofs.Good.{valid}
 use Rattle.sweep.proofs.Frames.{Framed, framed, framed-still}
 
 -- ---- the flags when one is taken
@@ -47,13 +46,12 @@ other-flags w e r d = down w e r ∙ rw (ne-eqb r e d)
 module _ {P S : Type 0} {C : Coordinates P} {K : Store P S} (M : MoveLaws C) (st : Stored K) (bl : Blanks K) where
   -- event order on the records in use
   orders : (s : State S) → Good C K (s .store) (s .used) → Orders (isBefore C K s) (s .used)
-  unfolding isBefore
+  unfolding isBefore keyUsed
   orders s g =
       let k = keyUsed K (s .store) (s .used) in
-      let v = valid M st bl (s .store) (s .used) g in
       record {
-        total = λ a b x y. total (M .order) (k a) (k b) (v a x .placed) (v b y .placed);
-        trans = λ a b c x y z. trans (M .order) (k a) (k b) (k c) (v a x) (v b y) (v c z);
+        total = λ a b x y. total (M .order) (k a) (k b);
+        trans = λ a b c x y z. trans (M .order) (k a) (k b) (k c) (g .sound a x .side) (g .sound b y .side) (g .sound c z .side);
       }
 
   -- ---- what the queue tells

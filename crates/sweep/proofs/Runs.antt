@@ -7,7 +7,7 @@ use native.Mathlib.Numerals.{add-one, sub-one}
 use native.Mathlib.Omega.{arith}
 use lib.ListN.{length, take, drop, set, length-set}
 use lib.Seq.{take-suc-set, drop-set-lt, drop-drop}
-use Rattle.numbers.specs.declared.Coordinate.{Coordinate}
+use Rattle.numbers.specs.declared.Point.{Point}
 use Rattle.events.specs.declared.Link.{Link}
 use Rattle.events.specs.declared.Link.the-variants.{None, To}
 use Rattle.events.specs.Binary64.{atBinary64}
@@ -29,7 +29,7 @@ use Rattle.sweep.proofs.AtBinary64.{relined}
 
 -- ---- one step
 
-module _ (crossing : Crossing Coordinate) (p : Pool) (w : List Bool) (status taken : List ℕ) (t : Turn) (op : Operation) (past : Coordinate → Bool) (n : Link) (is : n ≡ next atBinary64 stored (state p w (take (t .members) status) (take (t .count) taken) t)) where
+module _ (crossing : Crossing Point) (p : Pool) (w : List Bool) (status taken : List ℕ) (t : Turn) (op : Operation) (past : Point → Bool) (n : Link) (is : n ≡ next atBinary64 stored (state p w (take (t .members) status) (take (t .count) taken) t)) where
   pub step-none : (r : Turn) → n ≡ None → r ≡ endedTurn t
       → state p w (take (r .members) status) (take (r .count) taken) r ≡ step atBinary64 stored crossing op past (state p w (take (t .members) status) (take (t .count) taken) t)
   unfolding step stepBy halt endedTurn

@@ -12,7 +12,7 @@ use lib.ListN.{length, take, drop, replicate, length-replicate, take-append-drop
 use lib.Seq.{sets, length-take-le}
 use Rattle.lists.proofs.Fronts.{sets-front}
 use Rattle.refusals.specs.declared.Refusal.{Refusal}
-use Rattle.numbers.specs.declared.Coordinate.{Coordinate}
+use Rattle.numbers.specs.declared.Point.{Point}
 use Rattle.events.specs.Binary64.{atBinary64, inMode}
 use Rattle.events.specs.Coordinates.{Crossing}
 use Rattle.events.specs.Pool.{Pool, size, rowAt, stored}
@@ -120,7 +120,7 @@ unfolding startTurn linedTurn
 none-yet n waiting t l h = rw h (refl, refl)
 
 -- the run from there: p, l, k and so on, the pool, the status and the events taken, before it and, with a mark, after it
-module _ (crossing : Crossing Coordinate) (p : Pool) (n loaded waiting : ℕ) (op : Operation) (w : List Bool) (l k : List ℕ) (t r : Turn) (subject clip : Option Coordinate) (p' : Pool) (w' : List Bool) (l' k' : List ℕ) (places : n ≡ stored .size p) (hs : subject ≡ rightmost atBinary64 (rowAt p) true loaded) (hc : clip ≡ rightmost atBinary64 (rowAt p) false loaded) (hw : w ≡ replicate n true) (hl : l ≡ []) (hk : k ≡ []) (ht : t ≡ linedTurn (startTurn loaded) waiting) (hr : state p' w' l' k' r ≡ run atBinary64 stored crossing op (isPast atBinary64 op subject clip) (n + 1) (state p w l k t)) where
+module _ (crossing : Crossing Point) (p : Pool) (n loaded waiting : ℕ) (op : Operation) (w : List Bool) (l k : List ℕ) (t r : Turn) (subject clip : Option Point) (p' : Pool) (w' : List Bool) (l' k' : List ℕ) (places : n ≡ stored .size p) (hs : subject ≡ rightmost atBinary64 (rowAt p) true loaded) (hc : clip ≡ rightmost atBinary64 (rowAt p) false loaded) (hw : w ≡ replicate n true) (hl : l ≡ []) (hk : k ≡ []) (ht : t ≡ linedTurn (startTurn loaded) waiting) (hr : state p' w' l' k' r ≡ run atBinary64 stored crossing op (isPast atBinary64 op subject clip) (n + 1) (state p w l k t)) where
   swept-state : state p' w' l' k' r ≡ subdivide atBinary64 stored crossing op p loaded
   unfolding subdivide start past startTurn linedTurn stored
   swept-state = hr ∙ rw (ht, hw, hl, hk, hs, hc, places, add-one)

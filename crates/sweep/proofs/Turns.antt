@@ -10,7 +10,7 @@ use lib.Dec.{eqb}
 use lib.ListN.{length, take, length-take}
 use lib.Seq.{length-take-le}
 use Rattle.refusals.specs.declared.Refusal.{Refusal}
-use Rattle.numbers.specs.declared.Coordinate.{Coordinate}
+use Rattle.numbers.specs.declared.Point.{Point}
 use Rattle.lists.specs.Lists.{slot, insertAt, inserted, removed}
 use Rattle.lists.proofs.Slots.{slot-within}
 use Rattle.lists.proofs.Members.{members-inserted, members-removed}
@@ -57,7 +57,7 @@ members-in status n k e h r =
     let q = length-take n status in
     rw add-one (members-inserted status n k e (omega arith) r)
 
-pub enter-does : (crossing : Crossing Coordinate) (s s' : Pool) (status status' : List ℕ) (t r : Turn) (op : Operation) (e k n : ℕ) (lower upper lowest : Link) (x : Met) → t .members < length status
+pub enter-does : (crossing : Crossing Point) (s s' : Pool) (status status' : List ℕ) (t r : Turn) (op : Operation) (e k n : ℕ) (lower upper lowest : Link) (x : Met) → t .members < length status
     → k ≡ slot (isBelow atBinary64 stored crossing s (t .used) e) (take (t .members) status) → lower ≡ below (take (t .members) status) k → upper ≡ member (take (t .members) status) k → lowest ≡ below (take (t .members) status) (k - 1)
     → meeting s' n x ≡ between atBinary64 stored op crossing s (t .used) e lower upper lowest → status' ≡ inserted status (t .members) k e → r ≡ metTurn t (t .members + 1) n x
     → Does (λ z. enter atBinary64 stored crossing op z e) s (take (t .members) status) t s' (take (r .members) status') r
@@ -70,7 +70,7 @@ enter-does crossing s s' status status' t r op e k n lower upper lowest x room h
 
 -- ---- a segment leaves
 
-module _ (crossing : Crossing Coordinate) (s s' : Pool) (status : List ℕ) (t r : Turn) (k n : ℕ) (lower upper : Link) (x : Met) (hl : lower ≡ below (take (t .members) status) k) (hu : upper ≡ member (take (t .members) status) (k + 1)) (hm : meeting s' n x ≡ closeUp atBinary64 stored crossing s (t .used) lower upper) where
+module _ (crossing : Crossing Point) (s s' : Pool) (status : List ℕ) (t r : Turn) (k n : ℕ) (lower upper : Link) (x : Met) (hl : lower ≡ below (take (t .members) status) k) (hu : upper ≡ member (take (t .members) status) (k + 1)) (hm : meeting s' n x ≡ closeUp atBinary64 stored crossing s (t .used) lower upper) where
   pub leave-refused : (q : Refusal) → x ≡ Refused q → r ≡ metTurn t (t .members) n x
       → Does (λ z. leaveAt atBinary64 stored crossing z k) s (take (t .members) status) t s' (take (r .members) status) r
   unfolding leaveAt andThen goOn meets metTurn stopBy
@@ -82,7 +82,7 @@ module _ (crossing : Crossing Coordinate) (s s' : Pool) (status : List ℕ) (t r
   leave-done code status' there fit h hs hr =
       record { is = λ waits taken. rw (hr, hs, members-removed status (t .members) k there fit, ← hl, ← rw add-one at hu, ← hm, h) }
 
-module _ (crossing : Crossing Coordinate) (s : Pool) (status : List ℕ) (t : Turn) (o k : ℕ) (fit : t .members ≤ length status) (hk : k ≡ slot (λ x. eqb x o) (take (t .members) status)) where
+module _ (crossing : Crossing Point) (s : Pool) (status : List ℕ) (t : Turn) (o k : ℕ) (fit : t .members ≤ length status) (hk : k ≡ slot (λ x. eqb x o) (take (t .members) status)) where
   pub leaves : (s' : Pool) (l' : List ℕ) (r : Turn) → k < t .members → Does (λ z. leaveAt atBinary64 stored crossing z k) s (take (t .members) status) t s' l' r
       → Does (λ z. leave atBinary64 stored crossing z o) s (take (t .members) status) t s' l' r
   unfolding leave
@@ -94,7 +94,7 @@ module _ (crossing : Crossing Coordinate) (s : Pool) (status : List ℕ) (t : Tu
 
 -- ---- either, or the end
 
-module _ (crossing : Crossing Coordinate) (s : Pool) (status : List ℕ) (t : Turn) (op : Operation) (past : Coordinate → Bool) (e : ℕ) (f : Event Coordinate) (b : Bool) (hf : f ≡ look stored s (t .used) e) (hb : b ≡ past (f .point)) where
+module _ (crossing : Crossing Point) (s : Pool) (status : List ℕ) (t : Turn) (op : Operation) (past : Point → Bool) (e : ℕ) (f : Event Point) (b : Bool) (hf : f ≡ look stored s (t .used) e) (hb : b ≡ past (f .point)) where
   pub turn-ended : (r : Turn) → b ≡ true → r ≡ endedTurn t → Does (λ z. turn atBinary64 stored crossing op past z e) s (take (t .members) status) t s (take (r .members) status) r
   unfolding turn halt endedTurn
   turn-ended r h hr = record { is = λ waits taken. rw (hr, ← hf, ← hb, h) }

@@ -3,7 +3,7 @@
 use mathlib.Core.Bool.{Bool, true, false, cond, _||_, Bool·beq}
 use mathlib.Core.Option.{Option, none, some}
 use Prim.Native.Nat.{ℕ, zero, suc}
-use Rattle.numbers.specs.declared.Coordinate.{Coordinate}
+use Rattle.numbers.specs.declared.Point.{Point}
 use Rattle.events.specs.Coordinates.{Coordinates}
 use Rattle.events.specs.Event.{Event}
 use Rattle.class.specs.declared.Operation.{Operation}
@@ -40,6 +40,6 @@ module _ {P : Type 0} (C : Coordinates P) where
 
 -- ---- the enum of the code, at binary64
 
-abbrev pub reachOf : Reach → Option Coordinate
+abbrev pub reachOf : Reach → Option Point
 reachOf Empty = none
 reachOf (To p) = some p

@@ -6,13 +6,14 @@ ghost use Rattle.events.specs.Pool.{pool, rowAt};
 ghost use Rattle.sweep.specs.Bounds.{reachOf, isRightOf, isPast};
 ghost use Rattle.sweep.specs.Bounds as Spec;
 use class::Operation;
+use events::points::less_x;
 use events::pool::read_event;
-use numbers::Coordinate;
+use numbers::Point;
 
 // The point of a layer with the largest x; an empty layer has none.
 pub enum Reach {
     Empty,
-    To(Coordinate),
+    To(Point),
 }
 
 // Of both layers.
@@ -22,13 +23,13 @@ pub struct Bounds {
 }
 
 // The one with the larger x.
-fn farther(reach: Reach, p: Coordinate) -> Reach
+fn farther(reach: Reach, p: Point) -> Reach
     ensures { λ r. ⌜ reachOf r ≡ Spec.farther atBinary64 (reachOf reach) p ⌝ }
 {
     match reach {
         Reach::Empty => Reach::To(p),
         Reach::To(q) => {
-            if q.x < p.x {
+            if less_x(q, p) {
                 return Reach::To(p);
             }
             Reach::To(q)
@@ -38,7 +39,7 @@ fn farther(reach: Reach, p: Coordinate) -> Reach
 
 // With record r, where it is of the layer.
 fn reach_with(
-    points: &[[f64; 2]],
+    points: &[[u64; 2]],
     marks: &[[u32; 12]],
     subject: bool,
     reach: Reach,
@@ -55,7 +56,7 @@ fn reach_with(
 }
 
 // Of one layer's loaded records.
-fn rightmost(points: &[[f64; 2]], marks: &[[u32; 12]], loaded: u32, subject: bool) -> Reach
+fn rightmost(points: &[[u64; 2]], marks: &[[u32; 12]], loaded: u32, subject: bool) -> Reach
     ensures { λ x. ⌜ reachOf x ≡ Spec.rightmost atBinary64 (rowAt (pool (now (points .entry)) (now (marks .entry)))) subject loaded ⌝ }
 {
     let mut reach = Reach::Empty;
@@ -67,7 +68,7 @@ fn rightmost(points: &[[f64; 2]], marks: &[[u32; 12]], loaded: u32, subject: boo
     reach
 }
 
-pub fn bounds_of(points: &[[f64; 2]], marks: &[[u32; 12]], loaded: u32) -> Bounds
+pub fn bounds_of(points: &[[u64; 2]], marks: &[[u32; 12]], loaded: u32) -> Bounds
     ensures { λ x. ⌜ reachOf (x .subject) ≡ Spec.rightmost atBinary64 (rowAt (pool (now (points .entry)) (now (marks .entry)))) Bool.true loaded ⌝ }
     ensures { λ x. ⌜ reachOf (x .clip) ≡ Spec.rightmost atBinary64 (rowAt (pool (now (points .entry)) (now (marks .entry)))) Bool.false loaded ⌝ }
 {
@@ -78,17 +79,17 @@ pub fn bounds_of(points: &[[f64; 2]], marks: &[[u32; 12]], loaded: u32) -> Bound
 }
 
 // An empty layer's largest x is below every number.
-fn is_right_of(reach: Reach, p: Coordinate) -> bool
+fn is_right_of(reach: Reach, p: Point) -> bool
     ensures { λ r. ⌜ r ≡ isRightOf atBinary64 (reachOf reach) p ⌝ }
 {
     match reach {
         Reach::Empty => true,
-        Reach::To(q) => q.x < p.x,
+        Reach::To(q) => less_x(q, p),
     }
 }
 
 // No event from here on matters to the operation.
-pub fn is_past(bounds: Bounds, operation: Operation, p: Coordinate) -> bool
+pub fn is_past(bounds: Bounds, operation: Operation, p: Point) -> bool
     ensures { λ r. ⌜ r ≡ isPast atBinary64 operation (reachOf (bounds .subject)) (reachOf (bounds .clip)) p ⌝ }
 {
     let subject = bounds.subject;

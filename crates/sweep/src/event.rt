@@ -39,7 +39,7 @@ pub fn lowest_at(status: &[u32], n: usize, k: usize) -> Link
 
 // Below the first member, from the bottom, that it compares less than.
 fn enter(
-    points: &mut [[f64; 2]],
+    points: &mut [[u64; 2]],
     marks: &mut [[u32; 12]],
     status: &mut [u32],
     t: Turn,
@@ -73,7 +73,7 @@ fn enter(
 
 // The member at a place goes when its neighbours have met.
 fn leave_at(
-    points: &mut [[f64; 2]],
+    points: &mut [[u64; 2]],
     marks: &mut [[u32; 12]],
     status: &mut [u32],
     t: Turn,
@@ -100,7 +100,7 @@ fn leave_at(
 
 // Left record o, if it is a member.
 fn leave(
-    points: &mut [[f64; 2]],
+    points: &mut [[u64; 2]],
     marks: &mut [[u32; 12]],
     status: &mut [u32],
     t: Turn,
@@ -121,7 +121,7 @@ fn leave(
 
 // Either, unless the event lies past all that matters.
 pub fn work(
-    points: &mut [[f64; 2]],
+    points: &mut [[u64; 2]],
     marks: &mut [[u32; 12]],
     status: &mut [u32],
     t: Turn,

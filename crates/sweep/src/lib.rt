@@ -51,7 +51,7 @@ pub struct Swept {
 }
 
 // The pool's arrays, of which the taken list is one, unequal or above the limit, or more records loaded than there are places.
-fn check_sizes(points: &[[f64; 2]], marks: &[[u32; 12]], taken: &[u32], loaded: u32) -> Check
+fn check_sizes(points: &[[u64; 2]], marks: &[[u32; 12]], taken: &[u32], loaded: u32) -> Check
     ensures { λ r. ⌜ r ≡ sizes (length (now (points .entry))) (length (now (marks .entry))) (length (now (taken .entry))) loaded ⌝ }
 {
     let refused = Check::Refused(Refusal {
@@ -71,7 +71,7 @@ fn check_sizes(points: &[[f64; 2]], marks: &[[u32; 12]], taken: &[u32], loaded: 
 }
 
 // 1, then 2 and 4, for the loaded records.
-fn check(points: &[[f64; 2]], marks: &[[u32; 12]], taken: &[u32], loaded: u32) -> Check
+fn check(points: &[[u64; 2]], marks: &[[u32; 12]], taken: &[u32], loaded: u32) -> Check
     ensures { λ r. ⌜ r ≡ accept (pool (now (points .entry)) (now (marks .entry))) loaded (now (taken .entry)) ⌝ }
 {
     match check_sizes(points, marks, taken, loaded) {
@@ -92,7 +92,7 @@ fn outcome_of(stop: Stop) -> Outcome
 
 // The run, from all loaded records waiting, with one step more than there are places.
 fn sweep_in(
-    points: &mut [[f64; 2]],
+    points: &mut [[u64; 2]],
     marks: &mut [[u32; 12]],
     loaded: u32,
     operation: Operation,
@@ -133,7 +133,7 @@ fn sweep_in(
 
 // With places for a small pool.
 fn sweep_few(
-    points: &mut [[f64; 2]],
+    points: &mut [[u64; 2]],
     marks: &mut [[u32; 12]],
     loaded: u32,
     operation: Operation,
@@ -161,7 +161,7 @@ fn sweep_few(
 
 // With places for any pool.
 fn sweep_many(
-    points: &mut [[f64; 2]],
+    points: &mut [[u64; 2]],
     marks: &mut [[u32; 12]],
     loaded: u32,
     operation: Operation,
@@ -189,7 +189,7 @@ fn sweep_many(
 
 // With as few places as will do.
 fn sweep(
-    points: &mut [[f64; 2]],
+    points: &mut [[u64; 2]],
     marks: &mut [[u32; 12]],
     loaded: u32,
     operation: Operation,
@@ -207,7 +207,7 @@ fn sweep(
 
 // Sweeps the first `loaded` records of a pool, with crossings in a mode; the events taken stand in `taken`, from its first place.
 pub fn subdivide(
-    points: &mut [[f64; 2]],
+    points: &mut [[u64; 2]],
     marks: &mut [[u32; 12]],
     loaded: u32,
     operation: Operation,

@@ -17,7 +17,7 @@ use waiting::leads;
 
 // The place of a new member, by halving.
 fn place_of(
-    points: &[[f64; 2]],
+    points: &[[u64; 2]],
     marks: &[[u32; 12]],
     used: u32,
     queue: &[u32],
@@ -43,7 +43,7 @@ fn place_of(
 
 // Puts x in, where there is room.
 fn put(
-    points: &[[f64; 2]],
+    points: &[[u64; 2]],
     marks: &[[u32; 12]],
     used: u32,
     queue: &mut [u32],
@@ -102,7 +102,7 @@ fn evict(waits: &[bool], from: u32, queue: &mut [u32], n: u32, o: u32) -> u32
 
 // The older partners of the records from `from` on are taken out.
 fn evict_all(
-    points: &[[f64; 2]],
+    points: &[[u64; 2]],
     marks: &[[u32; 12]],
     waits: &[bool],
     from: u32,
@@ -126,7 +126,7 @@ fn evict_all(
 
 // Record r is put in, and its partner if that is older and waits.
 fn admit(
-    points: &[[f64; 2]],
+    points: &[[u64; 2]],
     marks: &[[u32; 12]],
     waits: &[bool],
     from: u32,
@@ -150,7 +150,7 @@ fn admit(
 
 // The records from `from` on are put in.
 fn admit_all(
-    points: &[[f64; 2]],
+    points: &[[u64; 2]],
     marks: &[[u32; 12]],
     waits: &[bool],
     from: u32,
@@ -173,7 +173,7 @@ fn admit_all(
 
 // After a step in which the places from `from` up to `used` came into use.
 pub fn requeue(
-    points: &[[f64; 2]],
+    points: &[[u64; 2]],
     marks: &[[u32; 12]],
     waits: &[bool],
     from: u32,

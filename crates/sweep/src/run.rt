@@ -38,7 +38,7 @@ fn take_event(waits: &mut [bool], taken: &mut [u32], t: Turn, e: u32, rival: boo
 
 // The first waiting event is taken, and does what it does.
 fn step(
-    points: &mut [[f64; 2]],
+    points: &mut [[u64; 2]],
     marks: &mut [[u32; 12]],
     waits: &mut [bool],
     queue: &mut [u32],
@@ -69,7 +69,7 @@ fn step(
 
 // At most so many steps.
 pub fn run(
-    points: &mut [[f64; 2]],
+    points: &mut [[u64; 2]],
     marks: &mut [[u32; 12]],
     waits: &mut [bool],
     queue: &mut [u32],

@@ -4,7 +4,7 @@ use mathlib.Core.Bool.{Bool, true, false, cond}
 use Prim.Native.Nat.{ℕ}
 use lib.Dec.{eqb}
 use Rattle.refusals.specs.declared.Refusal.{Refusal}
-use Rattle.numbers.specs.declared.Coordinate.{Coordinate}
+use Rattle.numbers.specs.declared.Point.{Point}
 use Rattle.events.specs.declared.Link.{Link}
 use Rattle.events.specs.declared.Link.the-variants.{None, To}
 use Rattle.events.specs.Binary64.{atBinary64}
@@ -21,7 +21,7 @@ use Rattle.neighbours.specs.declared.Met.the-variants.{Code, Refused}
 use Rattle.neighbours.specs.Neighbours.{Meeting, meeting, meet}
 use Rattle.sweep_events.specs.Event.{isTwo, isLess, isBelow, afterwards, lowerIn, classified, reclassed, withUpper, withLower, between, closeUp}
 
-pub classified-is : (s t : Pool) (used e : ℕ) (op : Operation) (lower : Link) (f g : Event Coordinate) (l : Lower Coordinate)
+pub classified-is : (s t : Pool) (used e : ℕ) (op : Operation) (lower : Link) (f g : Event Point) (l : Lower Point)
     → f ≡ look stored s used e → l ≡ lowerIn atBinary64 stored s used lower → g ≡ fields op f l → t ≡ store s e g → t ≡ classified atBinary64 stored op s used e lower
 unfolding classified stored
 classified-is s t used e op lower f g l hf hl hg ht = rw (ht, hg, hl, hf)
@@ -40,7 +40,7 @@ module _ (s : Pool) (n : ℕ) (x : Met) (two : Bool) (op : Operation) (a b : ℕ
 
 -- ---- a left event and its neighbours
 
-module _ (crossing : Crossing Coordinate) (s : Pool) (used e : ℕ) (op : Operation) where
+module _ (crossing : Crossing Point) (s : Pool) (used e : ℕ) (op : Operation) where
   pub upper-none : (lower upper : Link) (n : ℕ) (x : Met) → upper ≡ None → n ≡ used → x ≡ Code 0 → meeting s n x ≡ withUpper atBinary64 stored op crossing s used e lower upper
   unfolding withUpper
   upper-none lower upper n x h p q = rw (h, p, q)
@@ -70,7 +70,7 @@ module _ (crossing : Crossing Coordinate) (s : Pool) (used e : ℕ) (op : Operat
 
 -- ---- the two neighbours of a segment that leaves
 
-module _ (crossing : Crossing Coordinate) (s : Pool) (used : ℕ) where
+module _ (crossing : Crossing Point) (s : Pool) (used : ℕ) where
   pub closed-lowest : (lower upper : Link) (n : ℕ) (x : Met) → lower ≡ None → n ≡ used → x ≡ Code 0 → meeting s n x ≡ closeUp atBinary64 stored crossing s used lower upper
   unfolding closeUp
   closed-lowest lower upper n x h p q = rw (h, p, q)
@@ -86,7 +86,7 @@ module _ (crossing : Crossing Coordinate) (s : Pool) (used : ℕ) where
 -- ---- places in the status
 
 -- by the key of e, read once
-pub below-is : (crossing : Crossing Coordinate) (s : Pool) (used e x : ℕ) (key : Key Coordinate) (t : Bool) → key ≡ keyUsed stored s used e
+pub below-is : (crossing : Crossing Point) (s : Pool) (used e x : ℕ) (key : Key Point) (t : Bool) → key ≡ keyUsed stored s used e
     → t ≡ cond (eqb e x) false (isLess (compareSegments atBinary64 crossing key (keyUsed stored s used x))) → t ≡ isBelow atBinary64 stored crossing s used e x
 unfolding isBelow
 below-is crossing s used e x key t k h = rw (← k) h

@@ -10,13 +10,14 @@ use class::Neighbour;
 use class::Operation;
 use class::compute_fields;
 use events::Link;
+use events::points::same_x;
 use events::pool::read_used;
 use events::pool::store_event;
 use neighbours::Met;
 use neighbours::Neighbours;
 
 // Vertical: the partner's x is its own, by value.
-fn neighbour_used(points: &[[f64; 2]], marks: &[[u32; 12]], used: u32, number: u32) -> Neighbour
+fn neighbour_used(points: &[[u64; 2]], marks: &[[u32; 12]], used: u32, number: u32) -> Neighbour
     ensures { λ r. ⌜ shownNeighbour r ≡ neighbourIn atBinary64 stored (pool (now (points .entry)) (now (marks .entry))) used number ⌝ }
 {
     let event = read_used(points, marks, used, number);
@@ -24,11 +25,11 @@ fn neighbour_used(points: &[[f64; 2]], marks: &[[u32; 12]], used: u32, number: u
     Neighbour {
         number,
         event,
-        vertical: event.point.x == partner.point.x,
+        vertical: same_x(event.point, partner.point),
     }
 }
 
-fn lower_used(points: &[[f64; 2]], marks: &[[u32; 12]], used: u32, lower: Link) -> Lower
+fn lower_used(points: &[[u64; 2]], marks: &[[u32; 12]], used: u32, lower: Link) -> Lower
     ensures { λ r. ⌜ shownLower r ≡ lowerIn atBinary64 stored (pool (now (points .entry)) (now (marks .entry))) used lower ⌝ }
 {
     match lower {
@@ -39,7 +40,7 @@ fn lower_used(points: &[[f64; 2]], marks: &[[u32; 12]], used: u32, lower: Link) 
 
 // Record e anew from its lower neighbour.
 pub fn classify(
-    points: &mut [[f64; 2]],
+    points: &mut [[u64; 2]],
     marks: &mut [[u32; 12]],
     used: u32,
     e: u32,
@@ -70,7 +71,7 @@ fn is_two(met: Met) -> bool
 
 // After code 2 both are classed again from the bottom up: a from its lower neighbour, then b from a.
 pub fn reclass(
-    points: &mut [[f64; 2]],
+    points: &mut [[u64; 2]],
     marks: &mut [[u32; 12]],
     last: Neighbours,
     a: u32,

@@ -1,28 +1,27 @@
 // Members that lie clear below a new segment, by plain comparisons. A test that passes tells how the two compare; one that fails tells nothing.
 ghost use mathlib.Core.Path.{_≡_};
-ghost use mathlib.Core.Bool.{true, cond};
+ghost use mathlib.Core.Bool.{true};
 ghost use Prim.Native.Nat.{_<_, _≤_};
-ghost use lib.Ieee.{lt};
 ghost use lib.ListN.{length};
+ghost use Rattle.events.specs.Binary64.{atBinary64};
 ghost use Rattle.events.specs.Pool.{pool};
 ghost use Rattle.order.specs.Keys.{shownKey};
-ghost use Rattle.sweep_events.specs.Clear.{lowerOf, pointAt, mateAt, Ready, Above, Passed, AllPassed};
-use numbers::Coordinate;
-use numbers::HUGE;
-use numbers::not_finite;
+ghost use Rattle.sweep_events.specs.Clear.{lowerOf, BoundsOf, pointAt, mateAt, Ready, Above, Passed, AllPassed};
+use events::points::Run;
+use events::points::at_most_x;
+use events::points::has_x;
+use events::points::has_y;
+use events::points::higher_x;
+use events::points::less_y;
+use events::points::lower_y;
+use numbers::Point;
 use order::Key;
 
-// The lower of two heights, once for all members.
-pub fn lower_of(a: f64, b: f64) -> f64
-    ensures { λ r. ⌜ r ≡ lowerOf a b ⌝ }
+// The lower of a segment's two ends.
+fn lower_of(p: Point, q: Point) -> Point
+    ensures { λ r. ⌜ r ≡ lowerOf atBinary64 p q ⌝ }
 {
-    if not_finite(a) {
-        return f64::from_bits(0xfff0_0000_0000_0000);
-    }
-    if not_finite(b) {
-        return f64::from_bits(0xfff0_0000_0000_0000);
-    }
-    if a < b { a } else { b }
+    if less_y(p, q) { p } else { q }
 }
 
 fn lesser(a: usize, b: usize) -> usize
@@ -32,7 +31,7 @@ fn lesser(a: usize, b: usize) -> usize
 }
 
 // How many records can be read with no further question.
-pub fn ready_of(points: &[[f64; 2]], marks: &[[u32; 12]], used: u32) -> usize
+pub fn ready_of(points: &[[u64; 2]], marks: &[[u32; 12]], used: u32) -> usize
     ensures { λ r. ⌜ Ready (pool (now (points .entry)) (now (marks .entry))) used r ⌝ }
 {
     let all = used as usize;
@@ -42,48 +41,37 @@ pub fn ready_of(points: &[[f64; 2]], marks: &[[u32; 12]], used: u32) -> usize
     lesser(all, marks.len())
 }
 
-// The member starts before the new segment and ends behind its start, all below it. The sum is no infinity where none of its four numbers is.
-fn is_clear(key: Key, low: f64, point: Coordinate, mate: Coordinate) -> bool
-    requires { ⌜ low ≡ lowerOf (key .point .y) (key .mate .y) ⌝ }
-    ensures { λ r. ⌜ (r ≡ true → Above (shownKey key) point mate) ⌝ }
+// What a member's words are held to, once for all members: both y, its start's x, its end's x.
+pub struct Bounds {
+    pub lower: Run,
+    pub reached: Run,
+    pub beyond: Run,
+}
+
+pub fn bounds_of(key: Key) -> Bounds
+    ensures { λ r. ⌜ BoundsOf (shownKey key) r ⌝ }
 {
-    if point.y < low {
-        if mate.y < low {
-            if point.x <= key.point.x {
-                if key.point.x < mate.x {
-                    return -HUGE < (point.x - mate.x) + (point.y + mate.y);
-                }
-            }
-        }
+    let low = lower_of(key.point, key.mate);
+    Bounds {
+        lower: lower_y(low),
+        reached: at_most_x(key.point),
+        beyond: higher_x(key.point),
     }
-    false
 }
 
-fn higher(a: f64, b: f64) -> f64
-    ensures { λ r. ⌜ r ≡ cond (lt a b) b a ⌝ }
+// The member starts no later than the new segment and ends behind its start, all below it. No branches: most members pass.
+fn is_clear(bounds: Bounds, point: Point, mate: Point) -> bool
+    ensures { λ r. ⌜ (r ≡ true → Above bounds point mate) ⌝ }
 {
-    if a < b { b } else { a }
+    (has_y(bounds.lower, point) & has_y(bounds.lower, mate))
+        & (has_x(bounds.reached, point) & has_x(bounds.beyond, mate))
 }
 
-fn lower(a: f64, b: f64) -> f64
-    ensures { λ r. ⌜ r ≡ cond (lt a b) a b ⌝ }
+// The same of two members at once, from a to b and from c to d.
+fn are_clear(bounds: Bounds, a: Point, b: Point, c: Point, d: Point) -> bool
+    ensures { λ r. ⌜ (r ≡ true → Above bounds a b × Above bounds c d) ⌝ }
 {
-    if a < b { a } else { b }
-}
-
-// The same of two members at once, from a to b and from c to d: half as many questions.
-fn are_clear(key: Key, low: f64, a: Coordinate, b: Coordinate, c: Coordinate, d: Coordinate) -> bool
-    requires { ⌜ low ≡ lowerOf (key .point .y) (key .mate .y) ⌝ }
-    ensures { λ r. ⌜ (r ≡ true → Above (shownKey key) a b × Above (shownKey key) c d) ⌝ }
-{
-    if higher(higher(a.y, b.y), higher(c.y, d.y)) < low {
-        if higher(a.x, c.x) <= key.point.x {
-            if key.point.x < lower(b.x, d.x) {
-                return -HUGE < ((a.x - b.x) + (a.y + b.y)) + ((c.x - d.x) + (c.y + d.y));
-            }
-        }
-    }
-    false
+    is_clear(bounds, a, b) & is_clear(bounds, c, d)
 }
 
 // A record's number as a place in the arrays.
@@ -93,12 +81,12 @@ fn place_of(number: u32) -> usize
     number as usize
 }
 
-fn point_at(points: &[[f64; 2]], at: usize) -> Coordinate
+fn point_at(points: &[[u64; 2]], at: usize) -> Point
     requires { ⌜ at < length (now points) ⌝ }
     ensures { λ r. ⌜ r ≡ pointAt (now (points .entry)) at ⌝ }
 {
     let p = points[at];
-    Coordinate { x: p[0], y: p[1] }
+    Point { x: p[0], y: p[1] }
 }
 
 fn mate_at(marks: &[[u32; 12]], at: usize) -> usize
@@ -111,23 +99,21 @@ fn mate_at(marks: &[[u32; 12]], at: usize) -> usize
 
 // Member x, of which the two points are read and no more.
 fn lies_clear(
-    points: &[[f64; 2]],
+    points: &[[u64; 2]],
     marks: &[[u32; 12]],
     used: u32,
     ready: usize,
-    key: Key,
-    low: f64,
+    bounds: Bounds,
     x: u32,
 ) -> bool
     requires { ⌜ Ready (pool (now points) (now marks)) used ready ⌝ }
-    requires { ⌜ low ≡ lowerOf (key .point .y) (key .mate .y) ⌝ }
-    ensures { λ r. ⌜ (r ≡ true → Passed (pool (now (points .entry)) (now (marks .entry))) used (shownKey key) x) ⌝ }
+    ensures { λ r. ⌜ (r ≡ true → Passed (pool (now (points .entry)) (now (marks .entry))) used bounds x) ⌝ }
 {
     let at = x as usize;
     if at < ready {
         let mate = mate_at(marks, at);
         if mate < ready {
-            return is_clear(key, low, point_at(points, at), point_at(points, mate));
+            return is_clear(bounds, point_at(points, at), point_at(points, mate));
         }
     }
     false
@@ -135,18 +121,16 @@ fn lies_clear(
 
 // Members x and y.
 fn both_lie_clear(
-    points: &[[f64; 2]],
+    points: &[[u64; 2]],
     marks: &[[u32; 12]],
     used: u32,
     ready: usize,
-    key: Key,
-    low: f64,
+    bounds: Bounds,
     x: u32,
     y: u32,
 ) -> bool
     requires { ⌜ Ready (pool (now points) (now marks)) used ready ⌝ }
-    requires { ⌜ low ≡ lowerOf (key .point .y) (key .mate .y) ⌝ }
-    ensures { λ r. ⌜ (r ≡ true → Passed (pool (now (points .entry)) (now (marks .entry))) used (shownKey key) x × Passed (pool (now (points .entry)) (now (marks .entry))) used (shownKey key) y) ⌝ }
+    ensures { λ r. ⌜ (r ≡ true → Passed (pool (now (points .entry)) (now (marks .entry))) used bounds x × Passed (pool (now (points .entry)) (now (marks .entry))) used bounds y) ⌝ }
 {
     let i = x as usize;
     let j = y as usize;
@@ -157,8 +141,7 @@ fn both_lie_clear(
             if m < ready {
                 if n < ready {
                     return are_clear(
-                        key,
-                        low,
+                        bounds,
                         point_at(points, i),
                         point_at(points, m),
                         point_at(points, j),
@@ -173,21 +156,19 @@ fn both_lie_clear(
 
 // Two places at a time, up to a pair that may not lie clear or to the last place.
 fn after_pairs(
-    points: &[[f64; 2]],
+    points: &[[u64; 2]],
     marks: &[[u32; 12]],
     used: u32,
     ready: usize,
-    key: Key,
-    low: f64,
+    bounds: Bounds,
     status: &[u32],
     end: usize,
     from: usize,
 ) -> usize
     requires { ⌜ Ready (pool (now points) (now marks)) used ready ⌝ }
-    requires { ⌜ low ≡ lowerOf (key .point .y) (key .mate .y) ⌝ }
     requires { ⌜ (from ≤ end) × (end ≤ length (now status)) ⌝ }
     ensures { λ r. ⌜ (from ≤ r) × (r ≤ end) ⌝ }
-    ensures { λ r. ⌜ AllPassed (pool (now (points .entry)) (now (marks .entry))) used (shownKey key) (now (status .entry)) from r ⌝ }
+    ensures { λ r. ⌜ AllPassed (pool (now (points .entry)) (now (marks .entry))) used bounds (now (status .entry)) from r ⌝ }
 {
     if end == 0 {
         return from;
@@ -195,16 +176,7 @@ fn after_pairs(
     let last = end - 1;
     let mut i = from;
     while i < last {
-        if !both_lie_clear(
-            points,
-            marks,
-            used,
-            ready,
-            key,
-            low,
-            status[i],
-            status[i + 1],
-        ) {
+        if !both_lie_clear(points, marks, used, ready, bounds, status[i], status[i + 1]) {
             return i;
         }
         i += 2;
@@ -214,25 +186,23 @@ fn after_pairs(
 
 // The first place from here on whose member may not lie clear; the end where there is none.
 pub fn after_clear(
-    points: &[[f64; 2]],
+    points: &[[u64; 2]],
     marks: &[[u32; 12]],
     used: u32,
     ready: usize,
-    key: Key,
-    low: f64,
+    bounds: Bounds,
     status: &[u32],
     end: usize,
     from: usize,
 ) -> usize
     requires { ⌜ Ready (pool (now points) (now marks)) used ready ⌝ }
-    requires { ⌜ low ≡ lowerOf (key .point .y) (key .mate .y) ⌝ }
     requires { ⌜ (from ≤ end) × (end ≤ length (now status)) ⌝ }
     ensures { λ r. ⌜ (from ≤ r) × (r ≤ end) ⌝ }
-    ensures { λ r. ⌜ AllPassed (pool (now (points .entry)) (now (marks .entry))) used (shownKey key) (now (status .entry)) from r ⌝ }
+    ensures { λ r. ⌜ AllPassed (pool (now (points .entry)) (now (marks .entry))) used bounds (now (status .entry)) from r ⌝ }
 {
-    let mut i = after_pairs(points, marks, used, ready, key, low, status, end, from);
+    let mut i = after_pairs(points, marks, used, ready, bounds, status, end, from);
     while i < end {
-        if !lies_clear(points, marks, used, ready, key, low, status[i]) {
+        if !lies_clear(points, marks, used, ready, bounds, status[i]) {
             return i;
         }
         i += 1;

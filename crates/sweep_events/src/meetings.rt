@@ -26,7 +26,7 @@ fn alone(used: u32) -> Neighbours
 
 // Left record e and its neighbour above.
 fn with_upper(
-    points: &mut [[f64; 2]],
+    points: &mut [[u64; 2]],
     marks: &mut [[u32; 12]],
     used: u32,
     e: u32,
@@ -48,7 +48,7 @@ fn with_upper(
 
 // Left record e and its neighbour below, whose own lower neighbour is `lowest`.
 fn with_lower(
-    points: &mut [[f64; 2]],
+    points: &mut [[u64; 2]],
     marks: &mut [[u32; 12]],
     used: u32,
     e: u32,
@@ -70,7 +70,7 @@ fn with_lower(
 
 // Left record e enters between its neighbours.
 pub fn between(
-    points: &mut [[f64; 2]],
+    points: &mut [[u64; 2]],
     marks: &mut [[u32; 12]],
     used: u32,
     e: u32,
@@ -93,7 +93,7 @@ pub fn between(
 
 // The two neighbours of a segment that leaves.
 pub fn close_up(
-    points: &mut [[f64; 2]],
+    points: &mut [[u64; 2]],
     marks: &mut [[u32; 12]],
     used: u32,
     lower: Link,

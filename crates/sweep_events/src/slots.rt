@@ -10,7 +10,7 @@ ghost use Rattle.segments.specs.Segments.{compareSegments};
 ghost use Rattle.lists.specs.Lists.{slot};
 ghost use Rattle.sweep_events.specs.Event.{isLess, isBelow};
 use crate::clear::after_clear;
-use crate::clear::lower_of;
+use crate::clear::bounds_of;
 use crate::clear::ready_of;
 use order::Key;
 use order::key_used;
@@ -30,7 +30,7 @@ fn is_less(ordering: Ordering) -> bool
 
 // Left record e, whose key this is, compares less than member x.
 fn goes_below(
-    points: &[[f64; 2]],
+    points: &[[u64; 2]],
     marks: &[[u32; 12]],
     used: u32,
     e: u32,
@@ -48,7 +48,7 @@ fn goes_below(
 
 // The place in the status, which may be the one behind its last.
 pub fn slot_below(
-    points: &[[f64; 2]],
+    points: &[[u64; 2]],
     marks: &[[u32; 12]],
     used: u32,
     status: &[u32],
@@ -59,16 +59,16 @@ pub fn slot_below(
     ensures { λ r. ⌜ r ≡ slot (isBelow atBinary64 stored (inMode mode) (pool (now (points .entry)) (now (marks .entry))) used e) (take n (now (status .entry))) ⌝ }
 {
     let key = key_used(points, marks, used, e);
-    let low = lower_of(key.point.y, key.mate.y);
+    let bounds = bounds_of(key);
     let ready = ready_of(points, marks, used);
     let end = count(status, n);
     // most members lie clear below: only the others are compared
-    let mut i = after_clear(points, marks, used, ready, key, low, status, end, 0);
+    let mut i = after_clear(points, marks, used, ready, bounds, status, end, 0);
     while i < end {
         if goes_below(points, marks, used, e, key, status[i], mode) {
             return i;
         }
-        i = after_clear(points, marks, used, ready, key, low, status, end, i + 1);
+        i = after_clear(points, marks, used, ready, bounds, status, end, i + 1);
     }
     i
 }

@@ -6,10 +6,9 @@ use mathlib.Core.List.{List}
 use Prim.Native.Nat.{ℕ, _≤_, _*_, min}
 use native.Mathlib.Omega.{arith}
 use lib.ListN.{length}
-use lib.Ieee.{Float}
 use borrow.Author.Tests.{eq-eqb, le-ltb}
 use Rattle.refusals.specs.declared.Refusal.{Refusal}
-use Rattle.numbers.specs.declared.Coordinate.{Coordinate}
+use Rattle.numbers.specs.declared.Point.{Point}
 use Rattle.events.specs.Binary64.{atBinary64, inMode}
 use Rattle.events.specs.Pool.{Pool, size, rowAt, stored}
 use Rattle.events.proofs.Stored.{pool-stored}
@@ -46,17 +45,17 @@ not-done : (r : Refusal) (n : ℕ) → Refused r ≡ Done n → ⊥
 not-done r n e = let z : _≡_ {A = ℕ} 0 1 = cc in omega arith
 
 -- what an answer of loading tells
-record Did (edges : List (Edge Coordinate)) (c : Check) (n : ℕ) : Type 0 where
+record Did (edges : List (Edge Point)) (c : Check) (n : ℕ) : Type 0 where
   passed : c ≡ Passed
   records : n ≡ 2 * length edges
 
-did : (c : Check) (edges : List (Edge Coordinate)) (p : Pool) (n : ℕ) → Loading.afterChecks c edges p .answer ≡ Done n → Did edges c n
+did : (c : Check) (edges : List (Edge Point)) (p : Pool) (n : ℕ) → Loading.afterChecks c edges p .answer ≡ Done n → Did edges c n
 unfolding Loading.afterChecks
 did Passed edges p n h = record { passed = refl; records = let e : 2 * length edges ≡ n = cc in sym e }
 did (Struck r) edges p n h = absurd (not-done r n h)
 
-module _ (ends : List (List Float)) (labels : List (List ℕ)) (p : Pool) where
-  abbrev l : List (Edge Coordinate)
+module _ (ends : List (List ℕ)) (labels : List (List ℕ)) (p : Pool) where
+  abbrev l : List (Edge Point)
   l = edgesOf ends labels
 
   tells : (n : ℕ) → load ends labels p .answer ≡ Done n → Did l (Loading.accept ends labels p) n
@@ -114,12 +113,12 @@ record Both (op : Operation) (mode n : ℕ) (p : Pool) (taken : List ℕ) (p′ 
   runs : OnlyNumbers atBinary64 stored (inMode mode) op n p p′
   calls : SameAfter (runs .renaming .to) p taken (subdividePool op mode p n taken) p′ taken′ (subdividePool op mode p′ n taken′)
 
-module _ (op : Operation) (mode : ℕ) (ends : List (List Float)) (labels : List (List ℕ)) (p : Pool) (taken : List ℕ)
-    (ends′ : List (List Float)) (labels′ : List (List ℕ)) (p′ : Pool) (taken′ : List ℕ) (o : Reordered ends labels ends′ labels′) (s : SameSize p taken p′ taken′) where
-  abbrev l₁ : List (Edge Coordinate)
+module _ (op : Operation) (mode : ℕ) (ends : List (List ℕ)) (labels : List (List ℕ)) (p : Pool) (taken : List ℕ)
+    (ends′ : List (List ℕ)) (labels′ : List (List ℕ)) (p′ : Pool) (taken′ : List ℕ) (o : Reordered ends labels ends′ labels′) (s : SameSize p taken p′ taken′) where
+  abbrev l₁ : List (Edge Point)
   l₁ = edgesOf ends labels
 
-  abbrev l₂ : List (Edge Coordinate)
+  abbrev l₂ : List (Edge Point)
   l₂ = edgesOf ends′ labels′
 
   abbrev q₁ : Pool

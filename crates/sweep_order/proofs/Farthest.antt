@@ -1,5 +1,5 @@
--- The early stop does not depend on the order of the records: to the right of a farthest point is to the right of every point, for fit points.
-use mathlib.Core.Path.{_≡_, refl, sym, ap, ap₂, _∙_, subst}
+-- The early stop does not depend on the order of the records: to the right of a farthest point is to the right of every point.
+use mathlib.Core.Path.{_≡_, refl, sym, ap, ap₂, _∙_}
 use mathlib.Core.Bool.{Bool, true, false, cond, _&&_, _||_, Bool·beq, true≢false}
 use mathlib.Core.Option.{Option, none, some}
 use Prim.Native.Nat.{ℕ, zero, suc, _<_}
@@ -43,39 +43,16 @@ larger a b c = go (ltb a b) refl (ltb a c) refl (ltb b c) refl
     go false p false q z r = refl
 
 module _ {P : Type 0} {C : Coordinates P} (L : OrderLaws C) where
-  -- a point that has a place, if there is one
-  abbrev Placed : Option P → Type 0
-  Placed none = Unit {0}
-  Placed (some q) = L .Fine q
-
-  placed-farther : (o : Option P) (r : P) → Placed o → L .Fine r → Placed (farther C o r)
-  unfolding farther
-  placed-farther none r h fr = fr
-  placed-farther (some q) r h fr = go (C .lessX q r)
-    where
-      go : (x : Bool) → Placed (cond x (some r) (some q))
-      go true = fr
-      go false = h
-
-  placed-rightmost : (row : ℕ → Event P) (b : Bool) (n : ℕ) → ((r : ℕ) → r < n → L .Fine (row r .point)) → Placed (rightmost C row b n)
-  unfolding rightmost
-  placed-rightmost row b zero f = tt
-  placed-rightmost row b (suc n) f = go (Bool·beq (row n .subject) b) (placed-rightmost row b n (λ r l. f r (omega arith)))
-    where
-      go : (x : Bool) → Placed (rightmost C row b n) → Placed (cond x (farther C (rightmost C row b n) (row n .point)) (rightmost C row b n))
-      go true h = placed-farther (rightmost C row b n) (row n .point) h (f n (omega arith))
-      go false h = h
-
-  module _ (p : P) (fp : L .Fine p) where
-    right-of-both : (q r : P) → L .Fine q → L .Fine r → cond (C .lessX q r) (C .lessX r p) (C .lessX q p) ≡ (C .lessX q p && C .lessX r p)
+  module _ (p : P) where
+    right-of-both : (q r : P) → cond (C .lessX q r) (C .lessX r p) (C .lessX q p) ≡ (C .lessX q p && C .lessX r p)
     unfolding grid
-    right-of-both q r fq fr =
-        rw (L .less-x q r fq fr, L .less-x r p fr fp, L .less-x q p fq fp) (larger (L .place q .x) (L .place r .x) (L .place p .x))
+    right-of-both q r =
+        rw (L .less-x q r, L .less-x r p, L .less-x q p) (larger (L .place q .x) (L .place r .x) (L .place p .x))
 
-    right-of-farther : (o : Option P) (r : P) → Placed o → L .Fine r → isRightOf C (farther C o r) p ≡ (isRightOf C o p && C .lessX r p)
+    right-of-farther : (o : Option P) (r : P) → isRightOf C (farther C o r) p ≡ (isRightOf C o p && C .lessX r p)
     unfolding isRightOf farther
-    right-of-farther none r h fr = refl
-    right-of-farther (some q) r h fr = go (C .lessX q r) ∙ right-of-both q r h fr
+    right-of-farther none r = refl
+    right-of-farther (some q) r = go (C .lessX q r) ∙ right-of-both q r
       where
         go : (x : Bool) → isRightOf C (cond x (some r) (some q)) p ≡ cond x (C .lessX r p) (C .lessX q p)
         go true = refl
@@ -86,45 +63,32 @@ module _ {P : Type 0} {C : Coordinates P} (L : OrderLaws C) where
     RightOfAll row b n = (r : ℕ) → r < n → Bool·beq (row r .subject) b ≡ true → C .lessX (row r .point) p ≡ true
 
     module _ (row : ℕ → Event P) (b : Bool) where
-      right-of-all : (n : ℕ) → ((r : ℕ) → r < n → L .Fine (row r .point)) → isRightOf C (rightmost C row b n) p ≡ true → RightOfAll row b n
+      right-of-all : (n : ℕ) → isRightOf C (rightmost C row b n) p ≡ true → RightOfAll row b n
       unfolding rightmost
-      right-of-all zero f h r l k = absurd (omega arith)
-      right-of-all (suc n) f h r l k = go (Bool·beq (row n .subject) b) refl (right-of-all n (λ r l. f r (omega arith))) h
+      right-of-all zero h r l k = absurd (omega arith)
+      right-of-all (suc n) h r l k = go (Bool·beq (row n .subject) b) refl (right-of-all n) h
         where
-          placed : Placed (rightmost C row b n)
-          placed = placed-rightmost row b n (λ r l. f r (omega arith))
-
           go : (x : Bool) → Bool·beq (row n .subject) b ≡ x → (isRightOf C (rightmost C row b n) p ≡ true → RightOfAll row b n)
               → isRightOf C (cond x (farther C (rightmost C row b n) (row n .point)) (rightmost C row b n)) p ≡ true → C .lessX (row r .point) p ≡ true
           go true e earlier h =
-              let two = and-true (isRightOf C (rightmost C row b n) p) (C .lessX (row n .point) p) (sym (right-of-farther (rightmost C row b n) (row n .point) placed (f n (omega arith))) ∙ h) in
+              let two = and-true (isRightOf C (rightmost C row b n) p) (C .lessX (row n .point) p) (sym (right-of-farther (rightmost C row b n) (row n .point)) ∙ h) in
               below-suc (λ x. Bool·beq (row x .subject) b ≡ true → C .lessX (row x .point) p ≡ true) n r l (λ i. two .1) (λ i. earlier (two .0) r i) k
           go false e earlier h =
               below-suc (λ x. Bool·beq (row x .subject) b ≡ true → C .lessX (row x .point) p ≡ true) n r l (λ i. absurd (true≢false (sym i ∙ e))) (λ i. earlier h r i) k
 
-      all-right-of : (n : ℕ) → ((r : ℕ) → r < n → L .Fine (row r .point)) → RightOfAll row b n → isRightOf C (rightmost C row b n) p ≡ true
+      all-right-of : (n : ℕ) → RightOfAll row b n → isRightOf C (rightmost C row b n) p ≡ true
       unfolding rightmost isRightOf
-      all-right-of zero f h = refl
-      all-right-of (suc n) f h = go (Bool·beq (row n .subject) b) refl (all-right-of n (λ r l. f r (omega arith)) (λ r l. h r (omega arith)))
+      all-right-of zero h = refl
+      all-right-of (suc n) h = go (Bool·beq (row n .subject) b) refl (all-right-of n (λ r l. h r (omega arith)))
         where
-          placed : Placed (rightmost C row b n)
-          placed = placed-rightmost row b n (λ r l. f r (omega arith))
-
           go : (x : Bool) → Bool·beq (row n .subject) b ≡ x → isRightOf C (rightmost C row b n) p ≡ true
               → isRightOf C (cond x (farther C (rightmost C row b n) (row n .point)) (rightmost C row b n)) p ≡ true
-          go true e earlier = right-of-farther (rightmost C row b n) (row n .point) placed (f n (omega arith)) ∙ rw (earlier, h n (omega arith) e) refl
+          go true e earlier = right-of-farther (rightmost C row b n) (row n .point) ∙ rw (earlier, h n (omega arith) e) refl
           go false e earlier = earlier
 
     -- ---- under a renaming
 
-    module _ {n : ℕ} (ρ : Renaming n) (row row′ : ℕ → Event P) (named : (r : ℕ) → r < n → row′ (ρ .to r) ≡ rename (ρ .to) (row r)) (f : (r : ℕ) → r < n → L .Fine (row r .point)) where
-      f′ : (r : ℕ) → r < n → L .Fine (row′ r .point)
-      unfolding rename
-      f′ r l =
-          let q = ρ .from r in
-          let below = below-from ρ n q (omega arith) (rw (ρ .to-from r) l) in
-          subst (λ k. L .Fine (row′ k .point)) (ρ .to-from r) (subst (L .Fine) (sym (ap (λ e. e .point) (named q below))) (f q below))
-
+    module _ {n : ℕ} (ρ : Renaming n) (row row′ : ℕ → Event P) (named : (r : ℕ) → r < n → row′ (ρ .to r) ≡ rename (ρ .to) (row r)) where
       all-to : (b : Bool) → RightOfAll row b n → RightOfAll row′ b n
       unfolding rename
       all-to b h r l k =
@@ -143,7 +107,7 @@ module _ {P : Type 0} {C : Coordinates P} (L : OrderLaws C) where
 
       same-right : (b : Bool) → isRightOf C (rightmost C row′ b n) p ≡ isRightOf C (rightmost C row b n) p
       same-right b =
-          agree _ _ (λ h. all-right-of row b n f (all-from b (right-of-all row′ b n f′ h))) (λ h. all-right-of row′ b n f′ (all-to b (right-of-all row b n f h)))
+          agree _ _ (λ h. all-right-of row b n (all-from b (right-of-all row′ b n h))) (λ h. all-right-of row′ b n (all-to b (right-of-all row b n h)))
 
       pub same-past : (op : Operation) → past C op row′ n p ≡ past C op row n p
       unfolding past isPast

@@ -1,7 +1,7 @@
 -- The theorem, over any kind of coordinate, any store and any crossing: where the edges load and the run tells no tie, another order of the edges changes
 -- record numbers and nothing else. And 01's hypothesis is enough: where no two waiting events ever tie, the run tells no tie.
 use mathlib.Core.Path.{_≡_, refl, sym, ap, ap₂, _∙_, subst}
-use mathlib.Core.Bool.{Bool, true, false, _||_}
+use mathlib.Core.Bool.{Bool, false, _||_}
 use mathlib.Core.List.{List, List·Permᴰ}
 use Prim.Native.Nat.{ℕ, zero, suc, _<_, _≤_, _*_}
 use lib.ListN.{length}
@@ -40,9 +40,8 @@ module _ {P S : Type 0} {C : Coordinates P} {K : Store P S} (M : MoveLaws C) (st
     rows : (r : ℕ) → r < n → K .rowAt s′ (ρ .to r) ≡ rename (ρ .to) (K .rowAt s r)
     rows r l = sym (look-in K s′ n (ρ .to r) (below-to ρ n r (t .grown) l)) ∙ t .looks r ∙ ap (rename (ρ .to)) (look-in K s n r l)
 
-    bound : (p : P) → C .fit p ≡ true → past C op (K .rowAt s′) n p ≡ past C op (K .rowAt s) n p
-    bound p h =
-        same-past (M .order) p (M .fine p h) ρ (K .rowAt s) (K .rowAt s′) rows (λ r l. M .fine (K .rowAt s r .point) (ap (λ e. C .fit (e .point)) (sym (look-in K s n r l)) ∙ g .sound r l .fit)) op
+    bound : (p : P) → past C op (K .rowAt s′) n p ≡ past C op (K .rowAt s) n p
+    bound p = same-past (M .order) p ρ (K .rowAt s) (K .rowAt s′) rows op
 
     each : (k : ℕ) → after C K crossing op k s n .tied ≡ false → SameBut K (ρ .to) (after C K crossing op k s n) (after C K crossing op k s′ n)
     unfolding after start

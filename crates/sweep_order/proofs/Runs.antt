@@ -1,7 +1,7 @@
 -- Two runs from states that are one but for names stay so, step by step, where no waiting event tied with one taken: the one taken is then strictly
 -- before every other that waits, in both.
 use mathlib.Core.Path.{_≡_, refl, sym, ap, _∙_, subst}
-use mathlib.Core.Bool.{Bool, true, false}
+use mathlib.Core.Bool.{Bool, false}
 use mathlib.Core.List.{List}
 use Prim.Native.Nat.{ℕ, suc, _<_}
 use lib.ListN.{set}
@@ -18,7 +18,7 @@ use Rattle.class.specs.declared.Operation.{Operation}
 use Rattle.division.proofs.Sides.{MoveLaws}
 use Rattle.neighbours.proofs.Likeness.{Likeness}
 use Rattle.neighbours.proofs.Invariants.{Invariant, numbersInUse}
-use Rattle.neighbours.proofs.Both.{both, stores, numbers, store-known, number-known, numbers-both}
+use Rattle.neighbours.proofs.Both.{both, stores, numbers, store-known, numbers-both}
 use Rattle.waiting.specs.Waiting.{first, flagged}
 use Rattle.waiting.proofs.First.{found}
 use Rattle.sweep_events.proofs.Adapters.{events-both}
@@ -30,7 +30,7 @@ use Rattle.sweep.specs.Lined.{Good}
 use Rattle.sweep.proofs.Flags.{down}
 use Rattle.sweep.proofs.Abreast.{lists-map, StopsAlike, going, ended, refused, Abreast, on, StatesAlike, together, gone}
 use Rattle.sweep.proofs.Walk.{NextAlike, over, takes-up, TurnLaws, RunLaws, onward, alike-run}
-use Rattle.sweep.proofs.Good.{sound, sound-kept, valid}
+use Rattle.sweep.proofs.Good.{sound, sound-kept}
 use Rattle.sweep_order.specs.SameBut.{Renaming, renameStop, SameBut}
 use Rattle.sweep_order.proofs.Renamings.{below-to, eqb-to}
 use Rattle.sweep_order.proofs.Told.{untied-at}
@@ -44,18 +44,17 @@ Flags f w w′ = (r : ℕ) → flagged w′ (f r) ≡ flagged w r
 
 module _ {P S : Type 0} {C : Coordinates P} {K : Store P S} (M : MoveLaws C) (st : Stored K) (bl : Blanks K) where
   strictly : (s : State S) → Good C K (s .store) (s .used) → (e : ℕ) → next C K s ≡ To e → isTied C K s e ≡ false → Strict (flagged (s .waits)) (isBefore C K s) e (s .used)
-  unfolding next isTied isBefore
+  unfolding next isTied isBefore keyUsed
   strictly s g e h u =
-      let v = valid M st bl (s .store) (s .used) g in
       strict (flagged (s .waits)) (isBefore C K s) (λ r. r < s .used)
-      (λ q r x y. otherwise (M .order) (keyUsed K (s .store) (s .used) q) (keyUsed K (s .store) (s .used) r) (v q x .placed) (v r y .placed))
-      (λ p q r x y z. trans (M .order) (keyUsed K (s .store) (s .used) p) (keyUsed K (s .store) (s .used) q) (keyUsed K (s .store) (s .used) r) (v p x) (v q y) (v r z))
+      (λ q r x y. otherwise (M .order) (keyUsed K (s .store) (s .used) q) (keyUsed K (s .store) (s .used) r))
+      (λ p q r x y z. trans (M .order) (keyUsed K (s .store) (s .used) p) (keyUsed K (s .store) (s .used) q) (keyUsed K (s .store) (s .used) r) (g .sound p x .side) (g .sound q y .side) (g .sound r z .side))
       (s .used) (λ r l. l) e h u
 
 -- ---- two runs
 
 module _ {P S : Type 0} {C : Coordinates P} {K : Store P S} (M : MoveLaws C) (st : Stored K) (bl : Blanks K) (crossing : Crossing P) (op : Operation) {n : ℕ} (ρ : Renaming n) (past past′ : P → Bool)
-    (same-past : (p : P) → C .fit p ≡ true → past′ p ≡ past p) where
+    (same-past : (p : P) → past′ p ≡ past p) where
   abbrev I : Invariant P S
   I = sound M st bl
 
@@ -65,7 +64,7 @@ module _ {P S : Type 0} {C : Coordinates P} {K : Store P S} (M : MoveLaws C) (st
   abbrev B : Likeness P S P S
   B = both A I
 
-  -- where the early stop is the same for fit points
+  -- where the early stop is the same
   sound-turns : TurnLaws B op C K crossing past op C K crossing past′
   unfolding renames sound numbersInUse
   sound-turns =
@@ -74,7 +73,7 @@ module _ {P S : Type 0} {C : Coordinates P} {K : Store P S} (M : MoveLaws C) (st
         events = events-both (T .events) I (sound-kept M st bl crossing);
         lefts = λ w h. T .lefts (stores A I w) (numbers A I h);
         lates = λ {n = m} {s} {s′} {e} w h.
-            ap (λ k. past′ (look K s′ m k .point)) (to-is (numbers A I h .alike)) ∙ ap past′ (point-to (stores A I w .alike) e) ∙ same-past _ (store-known A I w .sound e (number-known A I h) .fit);
+            ap (λ k. past′ (look K s′ m k .point)) (to-is (numbers A I h .alike)) ∙ ap past′ (point-to (stores A I w .alike) e) ∙ same-past _;
         mates = λ w h l. T .mates (stores A I w) (numbers A I h) (numbers A I l);
       }
 

@@ -1,6 +1,6 @@
 -- The sweep's start, on the edges loaded in two orders: the same but for names, and every record sound.
 use mathlib.Core.Path.{_≡_, refl, sym, ap, _∙_}
-use mathlib.Core.Bool.{Bool, true, false, not, cond}
+use mathlib.Core.Bool.{Bool, true, false, cond}
 use mathlib.Core.List.{List, [], _∷_, List·Permᴰ}
 use Prim.Native.Nat.{ℕ, zero, suc, _≤_, _+_, _*_}
 use native.Mathlib.Omega.{arith}
@@ -9,7 +9,7 @@ use lib.Dec.{ltb}
 use borrow.Author.Tests.{ltb-true, ltb-false}
 use Rattle.events.specs.declared.Link.{Link}
 use Rattle.events.specs.declared.Link.the-variants.{None, To}
-use Rattle.events.specs.Coordinates.{Coordinates, same, ahead}
+use Rattle.events.specs.Coordinates.{Coordinates}
 use Rattle.events.specs.Event.{Event}
 use Rattle.events.specs.Renaming.{renameLink, rename}
 use Rattle.events.specs.Store.{Store, look}
@@ -88,8 +88,6 @@ module _ {P S : Type 0} (C : Coordinates P) {K : Store P S} (st : Stored K) (bl 
 
   pub good-loaded : MoveLaws C → (s : S) (l : List (Edge P)) → 2 * length l ≤ K .size s → checkedEdges C 0 l ≡ Passed → Good C K (loaded C K s 0 l) (2 * length l)
   good-loaded M s l room h =
-      let apart : (p q : P) → C .fit p ≡ true → C .fit q ≡ true → same C p q ≡ false → ahead C p q ≡ not (ahead C q p) =
-      λ p q f g d. ahead-apart (M .order) p q (M .fine p f) (M .fine q g) d in
       let held = rows C st l s 0 (omega arith) in
       good-checked C K (loaded C K s 0 l) (2 * length l) (rw (size-loaded C st l s 0) room)
-      (λ r k. sounds C (K .rowAt (loaded C K s 0 l)) (2 * length l) apart held h (omega arith) r (omega arith) (omega arith))
+      (λ r k. sounds C (K .rowAt (loaded C K s 0 l)) (2 * length l) (ahead-apart (M .order)) held h (omega arith) r (omega arith) (omega arith))

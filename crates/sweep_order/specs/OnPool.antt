@@ -4,7 +4,6 @@ use mathlib.Core.List.{List, [], map, List·Permᴰ}
 use Prim.Native.Nat.{ℕ, _<_, _≤_}
 use lib.ListN.{length, getD}
 use lib.Seq.{sets}
-use lib.Ieee.{Float}
 use Rattle.events.specs.Binary64.{atBinary64, inMode}
 use Rattle.events.specs.Renaming.{rename}
 use Rattle.events.specs.Pool.{Pool, rowAt, stored}
@@ -19,7 +18,7 @@ use Rattle.sweep_order.specs.SameBut.{renameRefusal}
 use Rattle.sweep_order.specs.Loadings.{OnlyNumbers}
 
 -- the same edges in another order
-pub record Reordered (ends : List (List Float)) (labels : List (List ℕ)) (ends′ : List (List Float)) (labels′ : List (List ℕ)) : Type 0 where
+pub record Reordered (ends : List (List ℕ)) (labels : List (List ℕ)) (ends′ : List (List ℕ)) (labels′ : List (List ℕ)) : Type 0 where
   pub as-many-ends : length ends′ ≡ length ends
   pub as-many-labels : length labels′ ≡ length labels
   pub edges : List·Permᴰ (edgesOf ends labels) (edgesOf ends′ labels′)
@@ -61,8 +60,8 @@ pub record SameAfter (ρ : ℕ → ℕ) (p : Pool) (lent : List ℕ) (a : After)
 -- ---- the sentence
 
 -- Edges that were loaded, n records in all, load in another order too; the runs are the same but for names, step by step; and so are the calls.
-pub record OrderFreeCalls (op : Operation) (mode n : ℕ) (ends : List (List Float)) (labels : List (List ℕ)) (p : Pool) (taken : List ℕ)
-    (ends′ : List (List Float)) (labels′ : List (List ℕ)) (p′ : Pool) (taken′ : List ℕ) : Type 0 where
+pub record OrderFreeCalls (op : Operation) (mode n : ℕ) (ends : List (List ℕ)) (labels : List (List ℕ)) (p : Pool) (taken : List ℕ)
+    (ends′ : List (List ℕ)) (labels′ : List (List ℕ)) (p′ : Pool) (taken′ : List ℕ) : Type 0 where
   pub loads : load ends′ labels′ p′ .answer ≡ Loaded n
   pub runs : OnlyNumbers atBinary64 stored (inMode mode) op n (load ends labels p .pool) (load ends′ labels′ p′ .pool)
   pub calls : SameAfter (runs .renaming .to) (load ends labels p .pool) taken (subdividePool op mode (load ends labels p .pool) n taken)

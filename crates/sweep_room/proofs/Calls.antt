@@ -6,9 +6,8 @@ use Prim.Native.Nat.{ℕ, _*_, _≤_}
 use native.Mathlib.Omega.{arith}
 use lib.ListN.{length, take}
 use lib.Seq.{length-take-le}
-use lib.Ieee.{Float}
 use borrow.Author.Tests.{eq-eqb, le-ltb}
-use Rattle.numbers.specs.declared.Coordinate.{Coordinate}
+use Rattle.numbers.specs.declared.Point.{Point}
 use Rattle.events.specs.Binary64.{atBinary64, inMode}
 use Rattle.events.specs.Pool.{Pool, size, rowAt, stored}
 use Rattle.events.proofs.Stored.{pool-stored}
@@ -41,12 +40,12 @@ unfolding Loads.poolSized missized
 room-passes points marks edges e few room = rw (e, eq-eqb points points refl, le-ltb maxEvents points few, le-ltb points (2 * edges) room)
 
 module _ (n : ℕ) (p : Pool) where
-  after-loading : (c : Check) (edges : List (Edge Coordinate)) → Loads.afterChecks c edges (firstPlaces n p) ≡ firstOfLoaded n (Loads.afterChecks c edges p)
+  after-loading : (c : Check) (edges : List (Edge Point)) → Loads.afterChecks c edges (firstPlaces n p) ≡ firstOfLoaded n (Loads.afterChecks c edges p)
   unfolding Loads.afterChecks firstOfLoaded pool-front
   after-loading Passed edges = ap (Loads.after _) (loaded-front atBinary64 (pool-front n) edges p 0)
   after-loading (Struck r) edges = refl
 
-pub load-room : (n : ℕ) (ends : List (List Float)) (labels : List (List ℕ)) (p : Pool)
+pub load-room : (n : ℕ) (ends : List (List ℕ)) (labels : List (List ℕ)) (p : Pool)
     → n ≤ length (p .points) → length (p .marks) ≡ length (p .points) → length (p .points) ≤ maxEvents → 2 * length ends ≤ n
     → load ends labels (firstPlaces n p) ≡ firstOfLoaded n (load ends labels p)
 unfolding load Loads.accept

@@ -6,7 +6,7 @@ use native.Mathlib.Omega.{arith}
 use lib.ListN.{length, take}
 use lib.Seq.{length-take-le, getD-take}
 use borrow.Author.Tests.{lt-ltb}
-use Rattle.numbers.specs.declared.Coordinate.{Coordinate}
+use Rattle.numbers.specs.declared.Point.{Point}
 use Rattle.events.specs.Event.{Event}
 use Rattle.events.specs.Pool.{Pool, pool, size, pointOf, marksOf, marksOver, rowAt, enter, store, stored}
 use Rattle.sweep_room.specs.Room.{firstPlaces}
@@ -18,11 +18,11 @@ unfolding size
 wide-pool n p within marks = omega arith
 
 module _ (n : ℕ) where
-  pub enter-first : (p : Pool) (i : ℕ) (e : Event Coordinate) → firstPlaces n (enter p i e) ≡ enter (firstPlaces n p) i e
+  pub enter-first : (p : Pool) (i : ℕ) (e : Event Point) → firstPlaces n (enter p i e) ≡ enter (firstPlaces n p) i e
   unfolding enter
   enter-first p i e = ap₂ pool (take-set n (p .points) i (pointOf e)) (take-set n (p .marks) i (marksOf e))
 
-  pub store-first : (p : Pool) (i : ℕ) (e : Event Coordinate) → firstPlaces n (store p i e) ≡ store (firstPlaces n p) i e
+  pub store-first : (p : Pool) (i : ℕ) (e : Event Point) → firstPlaces n (store p i e) ≡ store (firstPlaces n p) i e
   unfolding store
   store-first p i e = ap₂ pool (take-set n (p .points) i (pointOf e)) (take-over n (p .marks) i [] (λ m. marksOver m e))
 

@@ -7,7 +7,7 @@ use native.Mathlib.Numerals.{add-one}
 use native.Mathlib.Omega.{arith}
 use lib.ListN.{length, getD, take, drop, drop-of-length-le}
 use lib.Seq.{drop-cons, getD-take, length-take-le}
-use Rattle.numbers.specs.declared.Coordinate.{Coordinate}
+use Rattle.numbers.specs.declared.Point.{Point}
 use Rattle.events.specs.declared.Link.{Link}
 use Rattle.events.specs.declared.Link.the-variants.{None, To}
 use Rattle.events.specs.Event.{Event}
@@ -40,21 +40,21 @@ unfolding belowOutIn belowIn belowFlag
 below-flag p q n None = refl
 below-flag p q n (To b) = refl
 
-pub end-is : (p : Pool) (q : List ℕ) (n : ℕ) (e : Event Coordinate) (o k : ℕ) (f : Bool)
+pub end-is : (p : Pool) (q : List ℕ) (n : ℕ) (e : Event Point) (o k : ℕ) (f : Bool)
     → o ≡ placeIn q n (e .partner) → k ≡ belowPlace q n (e .below) → f ≡ belowOutIn p (e .below)
     → record { left = e .left; other = o; below = k; «out_in» = f } ≡ endFor (rowIn p q n e)
 unfolding rowIn endFor
 end-is p q n e o k f g h i = rw (g, h, i, below-number p q n (e .below), below-flag p q n (e .below))
 
-pub put-is : (p : Pool) (q : List ℕ) (n r i : ℕ) (e : Event Coordinate) (d : End) (t t′ : Rows)
+pub put-is : (p : Pool) (q : List ℕ) (n r i : ℕ) (e : Event Point) (d : End) (t t′ : Rows)
     → e ≡ rowAt p r → d ≡ endFor (rowIn p q n e) → t′ ≡ put t i (e .point) d → t′ ≡ putRow t i (rowIn p q n (rowAt p r))
 unfolding putRow rowIn
-put-is p q n r i e d t t′ g h k = k ∙ ap (put t i (e .point)) h ∙ ap (λ (f : Event Coordinate). putRow t i (rowIn p q n f)) g
+put-is p q n r i e d t t′ g h k = k ∙ ap (put t i (e .point)) h ∙ ap (λ (f : Event Point). putRow t i (rowIn p q n f)) g
 
 -- ---- the rest of the rows
 
 -- those from i on
-unfoldable pub restOf : Pool → List ℕ → ℕ → List (Row Coordinate)
+unfoldable pub restOf : Pool → List ℕ → ℕ → List (Row Point)
 restOf p s i = map (rowOf (rowAt p) s) (drop i s)
 
 -- the places that the array tells are those of the definition
@@ -66,7 +66,7 @@ row-in p s q n r h = rw (h .each (rowAt p r .partner), below (rowAt p r .below))
     below None = refl
     below (To b) = rw (h .each b)
 
-put-first : (t : Rows) (i : ℕ) (r : Row Coordinate) (rs : List (Row Coordinate)) → puts t i (r ∷ rs) ≡ puts (putRow t i r) (suc i) rs
+put-first : (t : Rows) (i : ℕ) (r : Row Point) (rs : List (Row Point)) → puts t i (r ∷ rs) ≡ puts (putRow t i r) (suc i) rs
 unfolding puts putRow put rowCode atCode
 put-first t i r rs = refl
 

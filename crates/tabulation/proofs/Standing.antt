@@ -7,7 +7,7 @@ use borrow.Author.Tests.{ltb-true, ltb-false, lt-ltb}
 use lib.Dec.{ltb}
 use lib.ListN.{length, getD, take, drop, length-map, List·getD-eq-default}
 use lib.Seq.{take-at}
-use Rattle.numbers.specs.declared.Coordinate.{Coordinate}
+use Rattle.numbers.specs.declared.Point.{Point}
 use Rattle.events.specs.Pool.{Pool}
 use Rattle.contours.specs.Table.{Row, nothing, place, rowAt}
 use Rattle.contours.proofs.Lists.{getD-map}
@@ -21,25 +21,25 @@ use Rattle.tabulation.proofs.Tabled.{room, size-table}
 
 -- ---- the codes of a table, read
 
-abbrev coded : List (Row Coordinate) → Rows
+abbrev coded : List (Row Point) → Rows
 coded rs = lent (map rowCode rs) (map atCode rs)
 
-abbrev none : Row Coordinate
+abbrev none : Row Point
 none = record { point = void; left = false; other = 0; below = nothing }
 
-row-inside : (rs : List (Row Coordinate)) (i : ℕ) → i < length rs → tableRow (coded rs) i ≡ rowAt void rs i
+row-inside : (rs : List (Row Point)) (i : ℕ) → i < length rs → tableRow (coded rs) i ≡ rowAt void rs i
 unfolding tableRow pointIn endIn rowAt rowCode atCode
 row-inside rs i h =
     rw
     (length-map rs atCode, lt-ltb i (length rs) h, getD-map rowCode rs i [] none h, getD-map atCode rs i [] none h, end-back (endFor (getD rs i none)), point-back (getD rs i none .point))
     (row-back (getD rs i none))
 
-row-beyond : (rs : List (Row Coordinate)) (i : ℕ) → length rs ≤ i → tableRow (coded rs) i ≡ rowAt void rs i
+row-beyond : (rs : List (Row Point)) (i : ℕ) → length rs ≤ i → tableRow (coded rs) i ≡ rowAt void rs i
 unfolding rowAt
 row-beyond rs i h =
     beyond (coded rs) i (rw (length-map rs rowCode) h) (rw (length-map rs atCode) h) ∙ sym (List·getD-eq-default rs none h)
 
-pub row-coded : (rs : List (Row Coordinate)) (i : ℕ) → tableRow (coded rs) i ≡ rowAt void rs i
+pub row-coded : (rs : List (Row Point)) (i : ℕ) → tableRow (coded rs) i ≡ rowAt void rs i
 row-coded rs i = go (ltb i (length rs)) refl
   where
     go : (t : Bool) → ltb i (length rs) ≡ t → tableRow (coded rs) i ≡ rowAt void rs i

@@ -9,7 +9,7 @@ use lib.Dec.{ltb}
 use lib.ListN.{length, take, drop, length-append, length-map}
 use lib.Seq.{take-at}
 use Rattle.lists.proofs.Fronts.{sets-front}
-use Rattle.numbers.specs.declared.Coordinate.{Coordinate}
+use Rattle.numbers.specs.declared.Point.{Point}
 use Rattle.events.specs.Binary64.{atBinary64}
 use Rattle.events.specs.Pool.{Pool, rowAt}
 use Rattle.checks.specs.Checks.{maxEvents}
@@ -52,7 +52,7 @@ room a b c d e f h =
 
 -- ---- a table in front
 
-puts-laid : (rs : List (Row Coordinate)) (t : Rows) → length rs ≤ length (t .rows) → length rs ≤ length (t .at) → puts t 0 rs ≡ laid rs t
+puts-laid : (rs : List (Row Point)) (t : Rows) → length rs ≤ length (t .rows) → length rs ≤ length (t .at) → puts t 0 rs ≡ laid rs t
 unfolding puts laid inFront
 puts-laid rs t h k =
     rw (sets-front (t .rows) (map rowCode rs) (rw (length-map rs rowCode) h), sets-front (t .at) (map atCode rs) (rw (length-map rs atCode) k))

@@ -5,7 +5,7 @@ use mathlib.Core.List.{List, map}
 use Prim.Native.Nat.{ℕ, _+_, _≤_}
 use lib.ListN.{length}
 use lib.Seq.{sets}
-use Rattle.numbers.specs.declared.Coordinate.{Coordinate}
+use Rattle.numbers.specs.declared.Point.{Point}
 use Rattle.events.specs.declared.Link.{Link}
 use Rattle.events.specs.declared.Link.the-variants.{None, To}
 use Rattle.events.specs.Event.{Event}
@@ -40,19 +40,19 @@ unfoldable pub belowIn : Pool → List ℕ → ℕ → Link → Below
 belowIn p q n None = nothing
 belowIn p q n (To b) = over (placeIn q n b) (isOutIn (rowAt p b .transition))
 
-unfoldable pub rowIn : Pool → List ℕ → ℕ → Event Coordinate → Row Coordinate
+unfoldable pub rowIn : Pool → List ℕ → ℕ → Event Point → Row Point
 rowIn p q n e = record { point = e .point; left = e .left; other = placeIn q n (e .partner); below = belowIn p q n (e .below) }
 
-unfoldable pub putRow : Rows → ℕ → Row Coordinate → Rows
+unfoldable pub putRow : Rows → ℕ → Row Point → Rows
 putRow t i r = put t i (r .point) (endFor r)
 
 -- ---- the rows of s
 
-unfoldable pub rowsOf : Pool → List ℕ → List (Row Coordinate)
+unfoldable pub rowsOf : Pool → List ℕ → List (Row Point)
 rowsOf p s = map (rowOf (rowAt p) s) s
 
 -- stored from position i on
-unfoldable pub puts : Rows → ℕ → List (Row Coordinate) → Rows
+unfoldable pub puts : Rows → ℕ → List (Row Point) → Rows
 puts t i rs = lent (sets (t .rows) i (map rowCode rs)) (sets (t .at) i (map atCode rs))
 
 unfoldable pub filled : Pool → List ℕ → Rows → Rows

@@ -3,9 +3,8 @@ use mathlib.Core.Bool.{Bool, false, cond}
 use mathlib.Core.List.{List, map}
 use Prim.Native.Nat.{ℕ}
 use lib.Dec.{leb, ltb}
-use lib.Ieee.{Float}
 use lib.ListN.{length}
-use Rattle.numbers.specs.declared.Coordinate.{Coordinate}
+use Rattle.numbers.specs.declared.Point.{Point}
 use Rattle.events.specs.Binary64.{atBinary64}
 use Rattle.events.specs.Pool.{Pool, rowAt}
 use Rattle.checks.specs.Checks.{maxEvents}
@@ -23,18 +22,18 @@ pub record Tabulated : Type 0 where
 abbrev pub tabulated : List ℕ → List ℕ → Rows → ℕ → Tabulated
 tabulated o q t n = record { order = o; places = q; rows = t; count = n }
 
-unfoldable pub tableIn : Pool → List ℕ → List (Row Coordinate)
+unfoldable pub tableIn : Pool → List ℕ → List (Row Point)
 tableIn p list = table (rowAt p) atBinary64 list
 
 -- the numbers of a row
-unfoldable pub rowCode : Row Coordinate → List ℕ
+unfoldable pub rowCode : Row Point → List ℕ
 rowCode r = endCode (endFor r)
 
-unfoldable pub atCode : Row Coordinate → List Float
+unfoldable pub atCode : Row Point → List ℕ
 atCode r = pointCode (r .point)
 
 -- a table in front of what was lent
-unfoldable pub laid : List (Row Coordinate) → Rows → Rows
+unfoldable pub laid : List (Row Point) → Rows → Rows
 laid rows t = lent (inFront (map rowCode rows) (t .rows)) (inFront (map atCode rows) (t .at))
 
 -- The list is within the limit, and the arrays have a place for each of its entries; the places, for each record of the pool.

@@ -40,13 +40,13 @@ fn has_room(
 
 // The table of a list in the first places of rows and at, and its size; nothing where there is no room.
 pub fn tabulate(
-    points: &[[f64; 2]],
+    points: &[[u64; 2]],
     marks: &[[u32; 12]],
     list: &[u32],
     order: &mut [u32],
     places: &mut [u32],
     rows: &mut [[u32; 4]],
-    at: &mut [[f64; 2]],
+    at: &mut [[u64; 2]],
 ) -> usize
     ensures { λ n. ⌜ tabulated (now (order .exit)) (now (places .exit)) (lent (now (rows .exit)) (now (at .exit))) n ≡ Spec.tabulate (pool (now (points .entry)) (now (marks .entry))) (now (list .entry)) (now (order .entry)) (now (places .entry)) (lent (now (rows .entry)) (now (at .entry))) ⌝ }
 {

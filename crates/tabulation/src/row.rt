@@ -37,7 +37,7 @@ fn below_place(places: &[u32], n: u32, below: Link) -> u32
 }
 
 // The edge below is OutIn.
-fn below_out_in(points: &[[f64; 2]], marks: &[[u32; 12]], below: Link) -> bool
+fn below_out_in(points: &[[u64; 2]], marks: &[[u32; 12]], below: Link) -> bool
     ensures { λ r. ⌜ r ≡ belowOutIn (pool (now (points .entry)) (now (marks .entry))) below ⌝ }
 {
     match below {
@@ -51,7 +51,7 @@ fn below_out_in(points: &[[f64; 2]], marks: &[[u32; 12]], below: Link) -> bool
 }
 
 // What the row of e holds beside its point.
-fn end_for(points: &[[f64; 2]], marks: &[[u32; 12]], places: &[u32], n: u32, e: Event) -> End
+fn end_for(points: &[[u64; 2]], marks: &[[u32; 12]], places: &[u32], n: u32, e: Event) -> End
     requires { ⌜ Few (now places) n ⌝ }
     ensures { λ r. ⌜ r ≡ endFor (rowIn (pool (now (points .entry)) (now (marks .entry))) (now (places .entry)) n (shown e)) ⌝ }
 {
@@ -66,12 +66,12 @@ fn end_for(points: &[[f64; 2]], marks: &[[u32; 12]], places: &[u32], n: u32, e: 
 
 // The row of record r at position i.
 fn put_at(
-    points: &[[f64; 2]],
+    points: &[[u64; 2]],
     marks: &[[u32; 12]],
     places: &[u32],
     n: u32,
     rows: &mut [[u32; 4]],
-    at: &mut [[f64; 2]],
+    at: &mut [[u64; 2]],
     i: usize,
     r: u32,
 )
@@ -85,13 +85,13 @@ fn put_at(
 
 // The rows of the first n of order, one after the other.
 pub fn fill(
-    points: &[[f64; 2]],
+    points: &[[u64; 2]],
     marks: &[[u32; 12]],
     order: &[u32],
     n: u32,
     places: &[u32],
     rows: &mut [[u32; 4]],
-    at: &mut [[f64; 2]],
+    at: &mut [[u64; 2]],
 )
     requires { ⌜ (n ≤ length (now order)) × Placing (take n (now order)) (now places) n ⌝ }
     ensures { λ _. ⌜ lent (now (rows .exit)) (now (at .exit)) ≡ filled (pool (now (points .entry)) (now (marks .entry))) (take n (now (order .entry))) (lent (now (rows .entry)) (now (at .entry))) ⌝ }

@@ -4,7 +4,6 @@ pub mod Matching
 pub mod Writing
 pub mod Bytes
 pub mod Reading
-pub mod Patterns
 pub mod Back
 pub mod Forth
 pub mod Within

@@ -9,8 +9,7 @@ use borrow.Author.Tests.{le-leb, leb-true, eq-eqb, ne-eqb, eqb-true, eqb-false}
 use lib.ListN.{length, getD, length-append, length-map}
 use lib.Seq.{sets}
 use lib.Dec.{eqb, leb}
-use lib.Ieee.{Float}
-use Rattle.numbers.specs.declared.Coordinate.{Coordinate}
+use Rattle.numbers.specs.declared.Point.{Point}
 use Rattle.events.specs.Coordinates.{same}
 use Rattle.events.specs.Binary64.{atBinary64}
 use Rattle.checks.specs.Checks.{maxEvents}
@@ -38,10 +37,10 @@ use Rattle.tracing.specs.Parts.{joined, holed, tracedBy}
 -- ---- corners, and how many contours are open
 
 module _ (t : Rows) (all : List Contour) where
-  abbrev outs : ℕ → List Contour → List (Outline Coordinate)
+  abbrev outs : ℕ → List Contour → List (Outline Point)
   outs c l = outlinesFrom (same atBinary64) (size t) (tableRow t) all c l
 
-  abbrev cornersBy : Contour → List Coordinate
+  abbrev cornersBy : Contour → List Point
   cornersBy k = corners (same atBinary64) (size t) (tableRow t) (k .trail)
 
   corners-long : (k : Contour) → length (cornersOf t (k .trail)) ≡ length (cornersBy k)
@@ -51,7 +50,7 @@ module _ (t : Rows) (all : List Contour) where
   corners-are : (c : ℕ) (l : List Contour) → allCorners t l ≡ cornersIn (outs c l)
   unfolding allCorners cornersOf cornersIn outlinesFrom outline
   corners-are c [] = refl
-  corners-are c (k ∷ l) = ap (λ (x : List (List Float)). map pointCode (cornersBy k) ++ x) (corners-are (suc c) l)
+  corners-are c (k ∷ l) = ap (λ (x : List (List ℕ)). map pointCode (cornersBy k) ++ x) (corners-are (suc c) l)
 
   corners-count : (c : ℕ) (l : List Contour) → length (allCorners t l) ≡ cornerCount (outs c l)
   unfolding allCorners cornerCount outlinesFrom outline
@@ -66,7 +65,7 @@ module _ (t : Rows) (all : List Contour) where
       kept : List Contour
       kept = keep (λ k. unclosedTrail t (k .trail)) l
 
-      open-ones : List (Outline Coordinate)
+      open-ones : List (Outline Point)
       open-ones = keep (λ o. o .unclosed) (outs (suc c) l)
 
       go : (b : Bool) → length kept ≡ length open-ones → length (cond b (k ∷ kept) kept) ≡ length (cond b (outline (same atBinary64) (size t) (tableRow t) all c k ∷ open-ones) open-ones)
@@ -136,14 +135,14 @@ module _ (t : Rows) (ns : List (List ℕ)) (cs : List Contour) (room : length cs
 
 -- ---- all of it
 
-sheets : {m : List ℕ} {o o′ : List (List Float)} {k k′ : List (List ℕ)} {h h′ : List ℕ} {r r′ : Traced} → o ≡ o′ → k ≡ k′ → h ≡ h′ → r ≡ r′ → sheet m o k h r ≡ sheet m o′ k′ h′ r′
+sheets : {m : List ℕ} {o o′ : List (List ℕ)} {k k′ : List (List ℕ)} {h h′ : List ℕ} {r r′ : Traced} → o ≡ o′ → k ≡ k′ → h ≡ h′ → r ≡ r′ → sheet m o k h r ≡ sheet m o′ k′ h′ r′
 sheets a b c d = rw (a, b, c, d)
 
 tells : {k k′ c c′ h h′ u u′ : ℕ} (s p : ℕ) → k ≡ k′ → c ≡ c′ → h ≡ h′ → u ≡ u′ → told k c h u s p ≡ told k′ c′ h′ u′ s p
 tells s p a b c d = rw (a, b, c, d)
 
-module _ (t : Rows) (out : List (List Float)) (ks : List (List ℕ)) (hs : List ℕ) (ns : List (List ℕ)) where
-  abbrev outsOf : List Contour → List (Outline Coordinate)
+module _ (t : Rows) (out : List (List ℕ)) (ks : List (List ℕ)) (hs : List ℕ) (ns : List (List ℕ)) where
+  abbrev outsOf : List Contour → List (Outline Point)
   outsOf cs = outlines (same atBinary64) (size t) (tableRow t) cs
 
   holed-is : (ms : List ℕ) (cs : List Contour) (stop place : ℕ) → length cs ≤ maxEvents → length cs ≤ length ns
@@ -199,22 +198,22 @@ module _ (t : Rows) (out : List (List Float)) (ks : List (List ℕ)) (hs : List 
 
 -- ---- the functions
 
-pub joined-is : (t : Rows) (ms ms′ : List ℕ) (out out′ : List (List Float)) (ks ks′ : List (List ℕ)) (hs hs′ : List ℕ) (ns ns′ : List (List ℕ)) (s : Turn) (e : ℕ)
+pub joined-is : (t : Rows) (ms ms′ : List ℕ) (out out′ : List (List ℕ)) (ks ks′ : List (List ℕ)) (hs hs′ : List ℕ) (ns ns′ : List (List ℕ)) (s : Turn) (e : ℕ)
     → S.sheet ms′ out′ ns′ s ≡ S.tracedOn t ms out ns → H.holding ks′ hs′ e ≡ holedOn ns′ (s .count) ks hs
     → sheet ms′ out′ ks′ hs′ (told (s .count) (s .end) e (s .unclosed) (s .stop) (s .place)) ≡ tracedBy t ms out ks hs ns
 unfolding tracedBy holed joined
 joined-is t ms ms′ out out′ ks ks′ hs hs′ ns ns′ s e f g = ap (joined (S.sheet ms′ out′ ns′ s)) g ∙ ap (holed ks hs) f
 
-pub whole : (t : Rows) (ms : List ℕ) (out : List (List Float)) (ks : List (List ℕ)) (hs : List ℕ) (ns : List (List ℕ)) (w : Sheet) → (size t ≤ maxEvents → size t ≤ length ns)
+pub whole : (t : Rows) (ms : List ℕ) (out : List (List ℕ)) (ks : List (List ℕ)) (hs : List ℕ) (ns : List (List ℕ)) (w : Sheet) → (size t ≤ maxEvents → size t ≤ length ns)
     → w ≡ tracedBy t ms out ks hs ns → w ≡ tracedOn t ms out ks hs
 whole t ms out ks hs ns w r e = e ∙ traced-is t out ks hs ns ms r
 
 -- ---- for a caller
 
 -- the arrays hold a table: what is traced is what the definition traces of it
-pub of-table : (t : Rows) (rs : List (Row Coordinate)) (ms : List ℕ) (out : List (List Float)) (ks : List (List ℕ)) (hs : List ℕ) → size t ≡ length rs → ((i : ℕ) → tableRow t i ≡ rowAt void rs i)
+pub of-table : (t : Rows) (rs : List (Row Point)) (ms : List ℕ) (out : List (List ℕ)) (ks : List (List ℕ)) (hs : List ℕ) → size t ≡ length rs → ((i : ℕ) → tableRow t i ≡ rowAt void rs i)
     → length rs ≤ maxEvents → length ms ≡ length rs → tracedOn t ms out ks hs ≡ tracedAll (length rs) (rowAt void rs) out ks hs
 unfolding tracedOn fits
 of-table t rs ms out ks hs n r l m =
     let e : tableRow t ≡ rowAt void rs = fun-ext r in
-    rw (le-leb (size t) maxEvents (omega arith), eq-eqb (length ms) (size t) (omega arith)) (ap (λ (k : ℕ). tracedAll k (tableRow t) out ks hs) n ∙ ap (λ (f : ℕ → Row Coordinate). tracedAll (length rs) f out ks hs) e)
+    rw (le-leb (size t) maxEvents (omega arith), eq-eqb (length ms) (size t) (omega arith)) (ap (λ (k : ℕ). tracedAll k (tableRow t) out ks hs) n ∙ ap (λ (f : ℕ → Row Point). tracedAll (length rs) f out ks hs) e)

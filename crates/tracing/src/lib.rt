@@ -27,9 +27,9 @@ pub struct Traced {
 // With places for what is kept of each contour until its holes are known.
 fn trace_by(
     rows: &[[u32; 4]],
-    at: &[[f64; 2]],
+    at: &[[u64; 2]],
     walked: &mut [u32],
-    corners: &mut [[f64; 2]],
+    corners: &mut [[u64; 2]],
     contours: &mut [[u32; 6]],
     holes: &mut [u32],
     nests: &mut [[u32; 4]],
@@ -50,9 +50,9 @@ fn trace_by(
 
 fn trace_few(
     rows: &[[u32; 4]],
-    at: &[[f64; 2]],
+    at: &[[u64; 2]],
     walked: &mut [u32],
-    corners: &mut [[f64; 2]],
+    corners: &mut [[u64; 2]],
     contours: &mut [[u32; 6]],
     holes: &mut [u32],
 ) -> Traced
@@ -66,9 +66,9 @@ fn trace_few(
 
 fn trace_many(
     rows: &[[u32; 4]],
-    at: &[[f64; 2]],
+    at: &[[u64; 2]],
     walked: &mut [u32],
-    corners: &mut [[f64; 2]],
+    corners: &mut [[u64; 2]],
     contours: &mut [[u32; 6]],
     holes: &mut [u32],
 ) -> Traced
@@ -82,9 +82,9 @@ fn trace_many(
 // Where the table is too long, or the marks are not as many as its rows, nothing is done.
 pub fn trace(
     rows: &[[u32; 4]],
-    at: &[[f64; 2]],
+    at: &[[u64; 2]],
     walked: &mut [u32],
-    corners: &mut [[f64; 2]],
+    corners: &mut [[u64; 2]],
     contours: &mut [[u32; 6]],
     holes: &mut [u32],
 ) -> Traced

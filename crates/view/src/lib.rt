@@ -2,20 +2,20 @@
 ghost use mathlib.Core.Path.{_≡_};
 ghost use lib.ListN.{length};
 ghost use Rattle.view.specs.View.{cornerAt, partOf};
-use numbers::Coordinate;
+use numbers::Point;
 
 pub enum Corner {
-    At(Coordinate),
+    At(Point),
     Nothing,
 }
 
 // Holds a contour's part.
 pub struct ContourView<'a> {
-    pub points: &'a [[f64; 2]],
+    pub points: &'a [[u64; 2]],
 }
 
 // The part from `first` up to `end`; one that is not within the points is shown empty.
-pub fn part_of(points: &[[f64; 2]], first: usize, end: usize) -> &[[f64; 2]]
+pub fn part_of(points: &[[u64; 2]], first: usize, end: usize) -> &[[u64; 2]]
     ensures { λ r. ⌜ now r ≡ partOf (now (points .entry)) first end ⌝ }
 {
     if end < first {
@@ -27,26 +27,26 @@ pub fn part_of(points: &[[f64; 2]], first: usize, end: usize) -> &[[f64; 2]]
     &points[first..end]
 }
 
-pub fn count_of(points: &[[f64; 2]]) -> usize
+pub fn count_of(points: &[[u64; 2]]) -> usize
     ensures { λ r. ⌜ r ≡ length (now (points .entry)) ⌝ }
 {
     points.len()
 }
 
 // Beyond the part there is no corner.
-pub fn corner_at(points: &[[f64; 2]], i: usize) -> Corner
+pub fn corner_at(points: &[[u64; 2]], i: usize) -> Corner
     ensures { λ r. ⌜ r ≡ cornerAt (now (points .entry)) i ⌝ }
 {
     if i < points.len() {
         let p = points[i];
-        let q = Coordinate { x: p[0], y: p[1] };
+        let q = Point { x: p[0], y: p[1] };
         return Corner::At(q);
     }
     Corner::Nothing
 }
 
 // Of a part as `part_of` gives it.
-pub fn contour_view<'a>(points: &'a [[f64; 2]]) -> ContourView<'a>
+pub fn contour_view<'a>(points: &'a [[u64; 2]]) -> ContourView<'a>
     ensures { λ r. ⌜ r .points ≡ points .entry ⌝ }
 {
     ContourView { points }
@@ -65,13 +65,13 @@ pub fn read_corner<'a>(v: ContourView<'a>, i: usize) -> Corner
 }
 
 // For a caller that holds the part: its view, asked once.
-pub fn count_shown(points: &[[f64; 2]]) -> usize
+pub fn count_shown(points: &[[u64; 2]]) -> usize
     ensures { λ r. ⌜ r ≡ length (now (points .entry)) ⌝ }
 {
     contour_len(contour_view(points))
 }
 
-pub fn corner_shown(points: &[[f64; 2]], i: usize) -> Corner
+pub fn corner_shown(points: &[[u64; 2]], i: usize) -> Corner
     ensures { λ r. ⌜ r ≡ cornerAt (now (points .entry)) i ⌝ }
 {
     read_corner(contour_view(points), i)

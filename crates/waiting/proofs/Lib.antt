@@ -10,4 +10,4 @@ pub mod Puts
 pub mod Moved
 pub mod Evictions
 pub mod Requeues
-pub mod Left
+pub mod Ahead

@@ -9,8 +9,7 @@ use native.Mathlib.Nat.{add-zero}
 use native.Mathlib.Omega.{arith}
 use lib.ListN.{length, set, length-map}
 use lib.Seq.{sets}
-use lib.Ieee.{Float}
-use Rattle.numbers.specs.declared.Coordinate.{Coordinate}
+use Rattle.numbers.specs.declared.Point.{Point}
 use Rattle.events.specs.Coordinates.{same}
 use Rattle.events.specs.Binary64.{atBinary64}
 use Rattle.contours.specs.Round.{seek, tries}
@@ -22,12 +21,12 @@ use Rattle.round.specs.Round.{tried, nextPos, found}
 use Rattle.round.proofs.Found.{seek-in}
 use Rattle.walks.specs.Walks.{Toured, toured, told, trail, trailFrom, cornersOf, unclosedTrail, marksOf, walkedAlong, walkedFrom, Trip, trip, otherOf, cornerAfter, marked, edgesAlong, edgesFrom, headTo, heading, Stepped}
 
-tours : {m m′ : List ℕ} {o o′ : List (List Float)} {e e′ : ℕ} {b b′ : Bool} → m ≡ m′ → o ≡ o′ → e ≡ e′ → b ≡ b′ → toured m o (told e b) ≡ toured m′ o′ (told e′ b′)
+tours : {m m′ : List ℕ} {o o′ : List (List ℕ)} {e e′ : ℕ} {b b′ : Bool} → m ≡ m′ → o ≡ o′ → e ≡ e′ → b ≡ b′ → toured m o (told e b) ≡ toured m′ o′ (told e′ b′)
 tours p q r s = rw (p, q, r, s)
 
 -- ---- where a walk goes on
 
-module _ (t : Rows) (home : Coordinate) (near : Bool) (ms : List ℕ) (q j : ℕ) (e : j ≡ nextPos t near ms q) where
+module _ (t : Rows) (home : Point) (near : Bool) (ms : List ℕ) (q j : ℕ) (e : j ≡ nextPos t near ms q) where
   abbrev Sought : Option ℕ → Type 0
   Sought o = seek ms (tried t near q) ≡ o
 
@@ -39,7 +38,7 @@ module _ (t : Rows) (home : Coordinate) (near : Bool) (ms : List ℕ) (q j : ℕ
       go none s f = refl
       go (some i) s f = absurd (omega (arith, seek-in ms _ i s, f))
 
-  module _ (h : j < length ms) (p : Coordinate) (b : Bool) (f : p ≡ pointAt t j) (g : b ≡ same atBinary64 home p) where
+  module _ (h : j < length ms) (p : Point) (b : Bool) (f : p ≡ pointAt t j) (g : b ≡ same atBinary64 home p) where
     head-some : heading t home near ms q ≡ cond b (length ms) j
     unfolding heading headTo nextPos found
     head-some = go (seek ms (tried t near q)) e
@@ -56,14 +55,14 @@ module _ (t : Rows) (home : Coordinate) (near : Bool) (ms : List ℕ) (q j : ℕ
 
 -- ---- one edge
 
-pub stepped : (t : Rows) (home : Coordinate) (near : Bool) (c : ℕ) (ms m1 m2 : List ℕ) (out out′ : List (List Float)) (i q e j : ℕ) (p : Coordinate)
+pub stepped : (t : Rows) (home : Point) (near : Bool) (c : ℕ) (ms m1 m2 : List ℕ) (out out′ : List (List ℕ)) (i q e j : ℕ) (p : Point)
     → m1 ≡ set ms i (c + 1) → m2 ≡ set m1 q (c + 1) → p ≡ pointAt t q → out′ ≡ set out e (pointCode p) → j ≡ heading t home near m2 q → Stepped t home near c ms out i q e m2 out′ j
 unfolding marked
 stepped t home near c ms m1 m2 out out′ i q e j p h1 h2 hp ho hj = record { walked = rw (h2, h1, add-one); corners = rw (ho, hp); next = hj }
 
 -- ---- the loop
 
-module _ (t : Rows) (home : Coordinate) (near : Bool) (c : ℕ) where
+module _ (t : Rows) (home : Point) (near : Bool) (c : ℕ) where
   abbrev path : ℕ → List ℕ → ℕ → List ℕ
   path k ms i = trail t near k home c ms i
 
@@ -98,7 +97,7 @@ module _ (t : Rows) (home : Coordinate) (near : Bool) (c : ℕ) where
         go none q f = refl
         go (some l) q f = at l (same atBinary64 home (pointAt t l)) (seek-in M _ l q) f
 
-  module _ (ms ms′ : List ℕ) (out out′ : List (List Float)) (e l i : ℕ) (f : ms′ ≡ marked t c ms i (otherOf t i)) (g : out′ ≡ set out e (cornerAfter t i)) where
+  module _ (ms ms′ : List ℕ) (out out′ : List (List ℕ)) (e l i : ℕ) (f : ms′ ≡ marked t c ms i (otherOf t i)) (g : out′ ≡ set out e (cornerAfter t i)) where
     -- an edge more in front
     along-more : (r : List ℕ) → edgesAlong t home c ms out e l (i ∷ r) ≡ edgesAlong t home c ms′ out′ (e + 1) (otherOf t i) r
     unfolding edgesAlong marksOf marks marked mark tableRow rowOf final
@@ -120,7 +119,7 @@ module _ (t : Rows) (home : Coordinate) (near : Bool) (c : ℕ) where
       unfolding edgesFrom edgesAlong marksOf marks final
       step-end k h = rw (path-end k ms i j onto (rw f at h)) (along-more [] ∙ rw add-zero)
 
-  module _ (k : ℕ) (ms ms′ : List ℕ) (out out′ : List (List Float)) (e l i j : ℕ) (r : End) (w : Trip) (z : 0 < k) (v : edgesFrom t home near c k ms out e l i ≡ w)
+  module _ (k : ℕ) (ms ms′ : List ℕ) (out out′ : List (List ℕ)) (e l i j : ℕ) (r : End) (w : Trip) (z : 0 < k) (v : edgesFrom t home near c k ms out e l i ≡ w)
       (f : r ≡ endAt t i) (s : Stepped t home near c ms out i (r .other) e ms′ out′ j) where
     taken : edgesFrom t home near c (suc (k - 1)) ms out e l i ≡ w
     taken = let n : k ≡ suc (k - 1) = omega arith in rw n at v
@@ -141,29 +140,29 @@ module _ (t : Rows) (home : Coordinate) (near : Bool) (c : ℕ) where
     pub turn-end : length ms′ ≤ j → trip ms′ out′ (e + 1) (r .other) ≡ w
     turn-end h = rw f (sym (step-end ms ms′ out out′ e l i wm wo j wn (k - 1) h) ∙ taken)
 
-  pub turn-none : (k : ℕ) (ms : List ℕ) (out : List (List Float)) (e l i : ℕ) (w : Trip) → k ≤ 0 → edgesFrom t home near c k ms out e l i ≡ w → trip ms out e l ≡ w
+  pub turn-none : (k : ℕ) (ms : List ℕ) (out : List (List ℕ)) (e l i : ℕ) (w : Trip) → k ≤ 0 → edgesFrom t home near c k ms out e l i ≡ w → trip ms out e l ≡ w
   unfolding edgesFrom edgesAlong trail marksOf marks final
   turn-none zero ms out e l i w z q = rw add-zero at q
   turn-none (suc k) ms out e l i w z q = absurd (omega arith)
 
 -- ---- the contour
 
-pub whole-none : (t : Rows) (near : Bool) (c i first : ℕ) (ms : List ℕ) (out : List (List Float)) → size t ≡ 0 → toured ms out (told first true) ≡ walkedFrom t near c i first ms out
+pub whole-none : (t : Rows) (near : Bool) (c i first : ℕ) (ms : List ℕ) (out : List (List ℕ)) → size t ≡ 0 → toured ms out (told first true) ≡ walkedFrom t near c i first ms out
 unfolding walkedFrom walkedAlong trailFrom trail marksOf marks cornersOf unclosedTrail corners closes
 whole-none t near c i first ms out h = rw (h, add-zero)
 
-module _ (t : Rows) (near : Bool) (c i first : ℕ) (ms : List ℕ) (out : List (List Float)) where
-  abbrev home : Coordinate
+module _ (t : Rows) (near : Bool) (c i first : ℕ) (ms : List ℕ) (out : List (List ℕ)) where
+  abbrev home : Point
   home = pointAt t i
 
   -- the edges, and whether the last of them is home again
-  abbrev closing : Coordinate → Trip → Toured
+  abbrev closing : Point → Trip → Toured
   closing p w = toured (w .walked) (w .corners) (told (w .end) (not (same atBinary64 p (pointAt t (w .last)))))
 
   corners-are : (r : List ℕ) → map pointCode (map (λ j. tableRow t (tableRow t j .other) .point) r) ≡ map (cornerAfter t) r
   unfolding tableRow rowOf cornerAfter
   corners-are [] = refl
-  corners-are (j ∷ r) = ap (λ (l : List (List Float)). cornerAfter t j ∷ l) (corners-are r)
+  corners-are (j ∷ r) = ap (λ (l : List (List ℕ)). cornerAfter t j ∷ l) (corners-are r)
 
   final-is : (l : ℕ) (r : List ℕ) → pointAt t (final l (map (otherOf t) r)) ≡ final (pointAt t l) (map (λ j. tableRow t (tableRow t j .other) .point) r)
   unfolding final tableRow rowOf
@@ -176,16 +175,16 @@ module _ (t : Rows) (near : Bool) (c i first : ℕ) (ms : List ℕ) (out : List 
   along-whole r =
       tours refl
       (ap (λ (n : ℕ). sets (set out first (pointCode home)) n (map (cornerAfter t) (i ∷ r))) (add-one first)
-      ∙ ap (λ (l : List (List Float)). sets (set out first (pointCode home)) (suc first) l) (sym (corners-are (i ∷ r))))
+      ∙ ap (λ (l : List (List ℕ)). sets (set out first (pointCode home)) (suc first) l) (sym (corners-are (i ∷ r))))
       (omega (arith, length-map (map (λ j. tableRow t (tableRow t j .other) .point) (i ∷ r)) pointCode, length-map (i ∷ r) (λ j. tableRow t (tableRow t j .other) .point)))
-      (ap (λ (p : Coordinate). not (same atBinary64 home p)) (final-is (otherOf t i) r))
+      (ap (λ (p : Point). not (same atBinary64 home p)) (final-is (otherOf t i) r))
 
   whole-by : (k : ℕ) → (k ≡ 0 → ⊥) → closing home (edgesFrom t home near c k ms (set out first (pointCode home)) (first + 1) 0 i) ≡ walkedAlong t c first ms out (trail t near k home c ms i)
   unfolding trail edgesFrom
   whole-by zero h = absurd (h refl)
   whole-by (suc k) h = along-whole _
 
-  pub whole : (out′ : List (List Float)) (p q : Coordinate) (w : Trip) (b : Bool) → (size t ≡ 0 → ⊥) → p ≡ home → out′ ≡ set out first (pointCode p)
+  pub whole : (out′ : List (List ℕ)) (p q : Point) (w : Trip) (b : Bool) → (size t ≡ 0 → ⊥) → p ≡ home → out′ ≡ set out first (pointCode p)
       → w ≡ edgesFrom t p near c (size t) ms out′ (first + 1) 0 i → q ≡ pointAt t (w .last) → b ≡ same atBinary64 p q
       → toured (w .walked) (w .corners) (told (w .end) (not b)) ≡ walkedFrom t near c i first ms out
   unfolding walkedFrom trailFrom tableRow rowOf
@@ -195,7 +194,7 @@ module _ (t : Rows) (near : Bool) (c i first : ℕ) (ms : List ℕ) (out : List 
 
 -- ---- how far a walk goes
 
-module _ (t : Rows) (home : Coordinate) (near : Bool) (c : ℕ) where
+module _ (t : Rows) (home : Point) (near : Bool) (c : ℕ) where
   walk-short : (k : ℕ) (ms : List ℕ) (i : ℕ) → length (path t home near c k ms i) ≤ k
   unfolding trail onward halt
   walk-short zero ms i = omega arith
@@ -230,7 +229,7 @@ corners-few t near c i ms = omega (arith, corners-short t (path t (tableRow t i 
 
 -- where what is tried is what the definition tries
 module _ (t : Rows) (near : Bool) (h : (q : ℕ) → tried t near q ≡ tries (same atBinary64) (size t) (tableRow t) q) where
-  trail-is : (k : ℕ) (home : Coordinate) (c : ℕ) (ms : List ℕ) (i : ℕ) → trail t near k home c ms i ≡ walk (same atBinary64) (size t) (tableRow t) k home c ms i
+  trail-is : (k : ℕ) (home : Point) (c : ℕ) (ms : List ℕ) (i : ℕ) → trail t near k home c ms i ≡ walk (same atBinary64) (size t) (tableRow t) k home c ms i
   unfolding trail walk
   trail-is zero home c ms i = refl
   trail-is (suc k) home c ms i =

@@ -9,8 +9,7 @@ use mathlib.Core.List.{List, [], _∷_, map}
 use Prim.Native.Nat.{ℕ, zero, suc, _+_}
 use lib.ListN.{length, set}
 use lib.Seq.{sets}
-use lib.Ieee.{Float}
-use Rattle.numbers.specs.declared.Coordinate.{Coordinate}
+use Rattle.numbers.specs.declared.Point.{Point}
 use Rattle.events.specs.Coordinates.{same}
 use Rattle.events.specs.Binary64.{atBinary64}
 use Rattle.contours.specs.Round.{seek}
@@ -23,10 +22,10 @@ use Rattle.walks.specs.declared.Walk.{Walk}
 -- what a walk leaves and tells
 pub record Toured : Type 0 where
   pub walked : List ℕ
-  pub corners : List (List Float)
+  pub corners : List (List ℕ)
   pub told : Walk
 
-abbrev pub toured : List ℕ → List (List Float) → Walk → Toured
+abbrev pub toured : List ℕ → List (List ℕ) → Walk → Toured
 toured m o w = record { walked = m; corners = o; told = w }
 
 abbrev pub told : ℕ → Bool → Walk
@@ -34,7 +33,7 @@ told e b = record { end = e; unclosed = b }
 
 module _ (t : Rows) where
   -- the definition's walk, by what is tried here: at most k edges from i on
-  unfoldable pub trail : Bool → ℕ → Coordinate → ℕ → List ℕ → ℕ → List ℕ
+  unfoldable pub trail : Bool → ℕ → Point → ℕ → List ℕ → ℕ → List ℕ
   trail near zero home c ms i = []
   trail near (suc k) home c ms i =
       i ∷ onward (seek (mark (same atBinary64) (size t) (tableRow t) c ms i) (tried t near (tableRow t i .other))) (λ j. same atBinary64 home (tableRow t j .point))
@@ -44,7 +43,7 @@ module _ (t : Rows) where
   unfoldable pub trailFrom : Bool → ℕ → ℕ → List ℕ → List ℕ
   trailFrom near c i ms = trail near (size t) (tableRow t i .point) c ms i
 
-  unfoldable pub cornersOf : List ℕ → List (List Float)
+  unfoldable pub cornersOf : List ℕ → List (List ℕ)
   cornersOf r = map pointCode (corners (same atBinary64) (size t) (tableRow t) r)
 
   unfoldable pub unclosedTrail : List ℕ → Bool
@@ -54,10 +53,10 @@ module _ (t : Rows) where
   marksOf c ms r = marks (same atBinary64) (size t) (tableRow t) c ms r
 
   -- the contour with this trail, its corners from `first` on
-  unfoldable pub walkedAlong : ℕ → ℕ → List ℕ → List (List Float) → List ℕ → Toured
+  unfoldable pub walkedAlong : ℕ → ℕ → List ℕ → List (List ℕ) → List ℕ → Toured
   walkedAlong c first ms out r = toured (marksOf c ms r) (sets out first (cornersOf r)) (told (first + length (cornersOf r)) (unclosedTrail r))
 
-  unfoldable pub walkedFrom : Bool → ℕ → ℕ → ℕ → List ℕ → List (List Float) → Toured
+  unfoldable pub walkedFrom : Bool → ℕ → ℕ → ℕ → List ℕ → List (List ℕ) → Toured
   walkedFrom near c i first ms out = walkedAlong c first ms out (trailFrom near c i ms)
 
 -- ---- its parts
@@ -65,11 +64,11 @@ module _ (t : Rows) where
 -- what edges leave: where their corners end, and the other end of the last
 pub record Trip : Type 0 where
   pub walked : List ℕ
-  pub corners : List (List Float)
+  pub corners : List (List ℕ)
   pub end : ℕ
   pub last : ℕ
 
-abbrev pub trip : List ℕ → List (List Float) → ℕ → ℕ → Trip
+abbrev pub trip : List ℕ → List (List ℕ) → ℕ → ℕ → Trip
 trip m o e l = record { walked = m; corners = o; end = e; last = l }
 
 module _ (t : Rows) where
@@ -77,20 +76,20 @@ module _ (t : Rows) where
   otherOf i = endAt t i .other
 
   -- the corner after the edge from i
-  unfoldable pub cornerAfter : ℕ → List Float
+  unfoldable pub cornerAfter : ℕ → List ℕ
   cornerAfter i = pointCode (pointAt t (otherOf i))
 
   -- the edge from i, whose other end is q
   unfoldable pub marked : ℕ → List ℕ → ℕ → ℕ → List ℕ
   marked c ms i q = set (set ms i (suc c)) q (suc c)
 
-  module _ (home : Coordinate) where
+  module _ (home : Point) where
     -- after an end l, the edges of a trail, the first corner behind them stored at e
-    unfoldable pub edgesAlong : ℕ → List ℕ → List (List Float) → ℕ → ℕ → List ℕ → Trip
+    unfoldable pub edgesAlong : ℕ → List ℕ → List (List ℕ) → ℕ → ℕ → List ℕ → Trip
     edgesAlong c ms out e l r = trip (marksOf t c ms r) (sets out e (map cornerAfter r)) (e + length r) (final l (map otherOf r))
 
     -- at most k edges from i on
-    unfoldable pub edgesFrom : Bool → ℕ → ℕ → List ℕ → List (List Float) → ℕ → ℕ → ℕ → Trip
+    unfoldable pub edgesFrom : Bool → ℕ → ℕ → List ℕ → List (List ℕ) → ℕ → ℕ → ℕ → Trip
     edgesFrom near c k ms out e l i = edgesAlong c ms out e l (trail t near k home c ms i)
 
     -- a walk goes on to a position that is found, unless it is home; m for nowhere
@@ -103,7 +102,7 @@ module _ (t : Rows) where
     heading near ms q = headTo (length ms) (seek ms (tried t near q))
 
     -- one edge walked from i to q, its corner stored at e: the marks and points after it, and where the walk goes on
-    pub record Stepped (near : Bool) (c : ℕ) (ms : List ℕ) (out : List (List Float)) (i q e : ℕ) (ms′ : List ℕ) (out′ : List (List Float)) (j : ℕ) : Type 0 where
+    pub record Stepped (near : Bool) (c : ℕ) (ms : List ℕ) (out : List (List ℕ)) (i q e : ℕ) (ms′ : List ℕ) (out′ : List (List ℕ)) (j : ℕ) : Type 0 where
       pub walked : ms′ ≡ marked c ms i q
       pub corners : out′ ≡ set out e (pointCode (pointAt t q))
       pub next : j ≡ heading near ms′ q

@@ -7,7 +7,7 @@ ghost use lib.ListN.{length, set};
 ghost use Rattle.rows.specs.Rows.{lent};
 ghost use Rattle.walks.specs.Walks.{trip, toured, walkedFrom, edgesFrom, heading, Stepped};
 use events::points::same_point;
-use numbers::Coordinate;
+use numbers::Point;
 use round::next_pos;
 use rows::end_at;
 use rows::point_at;
@@ -38,10 +38,10 @@ fn set_mark(walked: &mut [u32], i: usize, mark: u32)
 // Where a walk goes on from the end at q; the number of marks where it does not.
 fn aim_from(
     rows: &[[u32; 4]],
-    at: &[[f64; 2]],
+    at: &[[u64; 2]],
     walked: &[u32],
     near: bool,
-    home: Coordinate,
+    home: Point,
     q: u32,
 ) -> usize
     ensures { λ r. ⌜ r ≡ heading (lent (now (rows .entry)) (now (at .entry))) home near (now (walked .entry)) q ⌝ }
@@ -61,11 +61,11 @@ fn aim_from(
 // One edge, from pos to its other end q: both are marked, and q is the next corner.
 fn step(
     rows: &[[u32; 4]],
-    at: &[[f64; 2]],
+    at: &[[u64; 2]],
     walked: &mut [u32],
-    corners: &mut [[f64; 2]],
+    corners: &mut [[u64; 2]],
     near: bool,
-    home: Coordinate,
+    home: Point,
     c: u16,
     pos: usize,
     q: u32,
@@ -85,11 +85,11 @@ fn step(
 // The edges from start on, no more of them than the table has rows.
 fn edges_from(
     rows: &[[u32; 4]],
-    at: &[[f64; 2]],
+    at: &[[u64; 2]],
     walked: &mut [u32],
-    corners: &mut [[f64; 2]],
+    corners: &mut [[u64; 2]],
     near: bool,
-    home: Coordinate,
+    home: Point,
     c: u16,
     start: usize,
     first: usize,
@@ -123,9 +123,9 @@ fn edges_from(
 // Contour c, from start; its corners are stored from first on.
 pub fn walk_from(
     rows: &[[u32; 4]],
-    at: &[[f64; 2]],
+    at: &[[u64; 2]],
     walked: &mut [u32],
-    corners: &mut [[f64; 2]],
+    corners: &mut [[u64; 2]],
     near: bool,
     c: u16,
     start: usize,

@@ -4,14 +4,14 @@ use mathlib.Core.Path.{_≡_, ap, _∙_}
 use mathlib.Core.Bool.{Bool, true, false, cond}
 use Prim.Native.Nat.{ℕ, _+_}
 use native.Mathlib.Omega.{arith}
-use Rattle.numbers.specs.declared.Coordinate.{Coordinate}
+use Rattle.numbers.specs.declared.Point.{Point}
 use Rattle.events.specs.Event.{Event, shown}
 use Rattle.events.specs.Pool.{Pool, enter, store, stored}
 use Rattle.division.specs.Division.{newEnd, linked, parted}
 use Rattle.division.proofs.part.Statement.{statement}
 use Rattle.division.proofs.part.Tie as tie
 
-chain : (s s1 s2 s3 s4 : Pool) (used i : ℕ) (e f right left own other : Event Coordinate) (c : Coordinate) (keep : Bool)
+chain : (s s1 s2 s3 s4 : Pool) (used i : ℕ) (e f right left own other : Event Point) (c : Point) (keep : Bool)
     → right ≡ newEnd e c false i
     → left ≡ newEnd e c keep (e .partner)
     → own ≡ linked e used (e .left)

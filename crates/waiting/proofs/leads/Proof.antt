@@ -1,16 +1,16 @@
--- By x where it differs, else by the lower number's side.
+-- By the points where they differ, else by the lower number's side.
 use mathlib.Core.Path.{sym, _∙_}
 use borrow.Author.Tests.{lt-ltb, le-ltb}
 use Rattle.waiting.specs.Queue as Queue
-use Rattle.waiting.proofs.Left.{left-leads, left-led}
+use Rattle.waiting.proofs.Ahead.{ahead-leads, ahead-led}
 use Rattle.waiting.proofs.leads.Statement.{statement}
 use Rattle.waiting.proofs.leads.Tie as tie
 
 returns : tie.Need-returns
-returns c = sym (left-leads _ _ _ _ (sym (c .before .is-left-of .ensures) ∙ c .if1 .taken))
+returns c = sym (ahead-leads _ _ _ _ (sym (c .before .is-ahead-of .ensures) ∙ c .if1 .taken))
 
 returns-2 : tie.Need-returns-2
-returns-2 c = sym (left-led _ _ _ _ (sym (c .before .is-left-of2 .ensures) ∙ c .if2 .taken))
+returns-2 c = sym (ahead-led _ _ _ _ (sym (c .before .is-ahead-of2 .ensures) ∙ c .if2 .taken))
 
 returns-3 : tie.Need-returns-3
 unfolding Queue.leads

@@ -1,13 +1,13 @@
--- By x where it differs, else each test hands on to the next.
+-- By the points where they differ, else each test hands on to the next.
 use borrow.Author.Needs.{needs}
 use mathlib.Core.Path.{sym, _∙_}
 use Rattle.waiting.specs.Queue.{tiesWith}
-use Rattle.waiting.proofs.Left.{left-unties}
+use Rattle.waiting.proofs.Ahead.{ahead-unties}
 use Rattle.waiting.proofs.ties_with.Statement.{statement}
 use Rattle.waiting.proofs.ties_with.Tie as tie
 
 returns : tie.Need-returns
-returns c = rw (c .before .before .before .other .given .1) (sym (left-unties _ _ _ _ (sym (c .before .is-left-of .ensures) ∙ c .if1 .taken)))
+returns c = rw (c .before .before .before .other .given .1) (sym (ahead-unties _ _ _ _ (sym (c .before .is-ahead-of .ensures) ∙ c .if1 .taken)))
 
 returns-2 : tie.Need-returns-2
 unfolding tiesWith

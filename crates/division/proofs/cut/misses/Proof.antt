@@ -1,5 +1,4 @@
 -- Each return rewrites by the tests that led to it.
-use Rattle.events.specs.Binary64.{atBinary64}
 use Rattle.division.specs.Division as Spec
 use Rattle.division.proofs.cut.misses.Statement.{statement}
 use Rattle.division.proofs.cut.misses.Tie as tie
@@ -15,28 +14,28 @@ returns-2 c =
     rw (← one .before .same-point .ensures, one .if1 .left, ← c .before .same-point2 .ensures, c .if2 .taken)
 
 returns-3 : tie.Need-returns-3
-unfolding Spec.misses atBinary64
+unfolding Spec.misses
 returns-3 c =
-    let two = c .before .before .before in
+    let two = c .before .before in
     let one = two .before .before in
-    rw (← one .before .same-point .ensures, one .if1 .left, ← two .before .same-point2 .ensures, two .if2 .left, c .if3 .taken)
+    rw (← one .before .same-point .ensures, one .if1 .left, ← two .before .same-point2 .ensures, two .if2 .left, ← c .before .less-x .ensures, c .if3 .taken)
 
 returns-4 : tie.Need-returns-4
-unfolding Spec.misses atBinary64
+unfolding Spec.misses
 returns-4 c =
-    let three = c .before .before .before in
-    let two = three .before .before .before in
+    let three = c .before .before in
+    let two = three .before .before in
     let one = two .before .before in
-    rw (← one .before .same-point .ensures, one .if1 .left, ← two .before .same-point2 .ensures, two .if2 .left, three .if3 .left, c .if4 .taken)
+    rw (← one .before .same-point .ensures, one .if1 .left, ← two .before .same-point2 .ensures, two .if2 .left, ← three .before .less-x .ensures, three .if3 .left, ← c .before .less-x2 .ensures, c .if4 .taken)
 
 returns-5 : tie.Need-returns-5
-unfolding Spec.misses atBinary64
+unfolding Spec.misses
 returns-5 c =
     let four = c .before in
-    let three = four .before .before .before in
-    let two = three .before .before .before in
+    let three = four .before .before in
+    let two = three .before .before in
     let one = two .before .before in
-    rw (← one .before .same-point .ensures, one .if1 .left, ← two .before .same-point2 .ensures, two .if2 .left, three .if3 .left, four .if4 .left) (c .is-unfit-point .ensures)
+    rw (← one .before .same-point .ensures, one .if1 .left, ← two .before .same-point2 .ensures, two .if2 .left, ← three .before .less-x .ensures, three .if3 .left, ← four .before .less-x2 .ensures, four .if4 .left) (c .is-unfit-point .ensures)
 
 pub misses-spec : {M : Type 1} → statement M
-misses-spec = tie.close (tie.spec (λ c κs. tt) returns (λ c κs. tt) returns-2 returns-3 returns-4 (λ c κs. tt) returns-5)
+misses-spec = tie.close (tie.spec (λ c κs. tt) returns (λ c κs. tt) returns-2 (λ c κs. tt) returns-3 (λ c κs. tt) returns-4 (λ c κs. tt) returns-5)

@@ -1,12 +1,11 @@
 -- The test is the definition's, and the step in x is nextUp.
-use Rattle.events.specs.Binary64.{atBinary64}
 use Rattle.division.specs.Division as Spec
 use Rattle.division.proofs.cut.moved.Statement.{statement}
 use Rattle.division.proofs.cut.moved.Tie as tie
 
 returns : tie.Need-returns
-unfolding Spec.moved atBinary64
-returns c = rw (← c .before .before .moves .ensures, c .before .if1 .taken, c .next-up .ensures)
+unfolding Spec.moved
+returns c = rw (← c .before .before .moves .ensures, c .before .if1 .taken, c .next-x .ensures)
 
 returns-2 : tie.Need-returns-2
 unfolding Spec.moved

@@ -6,7 +6,7 @@ use native.Mathlib.Omega.{arith}
 use Prim.Native.Nat.{_-_, _≤_}
 use lib.ListN.{length, drop}
 use Rattle.view.proofs.Parts.{found-within}
-use Rattle.printing.specs.Printing.{bitsOf, cornerLines}
+use Rattle.printing.specs.Printing.{cornerLines}
 use Rattle.printing.specs.Arrays.{cornerOf}
 use Rattle.printing.proofs.Goings.{Going, begun, on, done}
 use Rattle.printing.proofs.Parts.{corner-on, corner-end}
@@ -46,7 +46,6 @@ loop-less c =
     omega (arith, within .0)
 
 loop-again : tie.Need-loop-again Inv-loop μ-loop
-unfolding bitsOf
 loop-again c =
     let p = c .before .before .before .before .before .p .given in
     let l = c .before .before .before .before .before .before .before .before .loop in

@@ -5,23 +5,20 @@ use Rattle.segments.proofs.quick.is_beside.Tie as tie
 
 returns : tie.Need-returns
 unfolding beside
-returns c = rw (c .before .before .before .before .before .before .before .before .if1 .taken, c .before .before .before .before .before .if2 .taken, c .before .before .before .if3 .taken, c .before .if4 .taken)
+returns c = rw (← c .before .less-x .ensures, c .if1 .taken)
 
 returns-2 : tie.Need-returns-2
 unfolding beside
-returns-2 c = rw (c .before .before .before .before .before .before .before .if1 .taken, c .before .before .before .before .if2 .taken, c .before .before .if3 .taken, c .if4 .left)
+returns-2 c =
+    let e1 = c .before .before in
+    rw (← e1 .before .less-x .ensures, e1 .if1 .left, ← c .before .less-x2 .ensures, c .if2 .taken)
 
 returns-3 : tie.Need-returns-3
 unfolding beside
-returns-3 c = rw (c .before .before .before .before .before .if1 .taken, c .before .before .if2 .taken, c .if3 .left)
-
-returns-4 : tie.Need-returns-4
-unfolding beside
-returns-4 c = rw (c .before .before .before .if1 .taken, c .if2 .left)
-
-returns-5 : tie.Need-returns-5
-unfolding beside
-returns-5 c = rw (c .if1 .left)
+returns-3 c =
+    let e2 = c .before in
+    let e1 = e2 .before .before in
+    rw (← e1 .before .less-x .ensures, e1 .if1 .left, ← e2 .before .less-x2 .ensures, e2 .if2 .left, c .less-x3 .ensures)
 
 pub is-beside-spec : {M : Type 1} → statement M
-is-beside-spec = tie.close (tie.spec returns returns-2 returns-3 returns-4 returns-5)
+is-beside-spec = tie.close (tie.spec (λ c κs. tt) returns (λ c κs. tt) returns-2 (λ c κs. tt) returns-3)

@@ -3,7 +3,7 @@ use mathlib.Core.Path.{_≡_, refl, ap}
 use Prim.Native.Nat.{_≤_, _-_}
 use native.Mathlib.Omega.{arith}
 use lib.ListN.{length, take}
-use Rattle.numbers.specs.declared.Coordinate.{Coordinate}
+use Rattle.numbers.specs.declared.Point.{Point}
 use Rattle.events.specs.Event.{Event}
 use Rattle.events.specs.Pool.{pool, stored}
 use Rattle.events.specs.Store.{look}
@@ -31,7 +31,7 @@ loop-again : tie.Need-loop-again Inv-loop μ-loop
 loop-again c =
     let l = c .before .before .before .before .before .before .loop in
     let out = c .before .before .evict in (
-      evicted-next _ _ (l .inv .3) _ _ _ _ _ (l .inv .0) _ (ap (λ (e : Event Coordinate). e .partner) (c .before .before .before .before .read-used .ensures)) (out .ensures .0),
+      evicted-next _ _ (l .inv .3) _ _ _ _ _ (l .inv .0) _ (ap (λ (e : Event Point). e .partner) (c .before .before .before .before .read-used .ensures)) (out .ensures .0),
       out .ensures .1,
       omega arith,
       omega arith,

@@ -3,30 +3,29 @@ use mathlib.Core.Path.{_≡_}
 use Prim.Native.Nat.{_+_, _-_, _≤_}
 use native.Mathlib.Omega.{arith}
 use Rattle.events.specs.Pool.{pool}
-use Rattle.order.specs.Keys.{shownKey}
 use Rattle.sweep_events.specs.Clear.{AllPassed}
 use Rattle.sweep_events.proofs.Passing.{none-yet, two-more, turned}
 use Rattle.sweep_events.proofs.clear.after_pairs.Statement.{statement}
 use Rattle.sweep_events.proofs.clear.after_pairs.Tie as tie
 
 abbrev Inv-loop : tie.InvT-loop
-Inv-loop points marks used ready key low status end from last i₀ i = (last + 1 ≡ end) × (from ≤ i) × (i ≤ end) × AllPassed (pool points marks) used (shownKey key) status from i
+Inv-loop points marks used ready bounds status end from last i₀ i = (last + 1 ≡ end) × (from ≤ i) × (i ≤ end) × AllPassed (pool points marks) used bounds status from i
 
 abbrev μ-loop : tie.MeasureT-loop
-μ-loop points marks used ready key low status end from last i₀ i = end - i
+μ-loop points marks used ready bounds status end from last i₀ i = end - i
 
 returns : tie.Need-returns Inv-loop μ-loop
 returns c =
     let a = c .before .before .args in
-    ((omega arith, c .before .before .pre .1 .1 .0), none-yet (pool (a .points .now) (a .marks .now)) (a .used) (shownKey (a .key)) (a .status .now) (a .from))
+    ((omega arith, c .before .before .pre .1 .0), none-yet (pool (a .points .now) (a .marks .now)) (a .used) (a .bounds) (a .status .now) (a .from))
 
 loop-holds : tie.Need-loop-holds Inv-loop μ-loop
 loop-holds c =
     let a = c .before .before .args in
-    (omega arith, omega arith, c .before .before .pre .1 .1 .0, none-yet (pool (a .points .now) (a .marks .now)) (a .used) (shownKey (a .key)) (a .status .now) (a .from))
+    (omega arith, omega arith, c .before .before .pre .1 .0, none-yet (pool (a .points .now) (a .marks .now)) (a .used) (a .bounds) (a .status .now) (a .from))
 
 both-lie-clear-requires : tie.Need-both-lie-clear-requires Inv-loop μ-loop
-both-lie-clear-requires c κs = let s = c .before .before .before .before .before .before in (s .pre .0, s .pre .1 .0)
+both-lie-clear-requires c κs = let s = c .before .before .before .before .before .before in s .pre .0
 
 returns-2 : tie.Need-returns-2 Inv-loop μ-loop
 returns-2 c = let l = c .before .before .before .before .before .loop in ((l .inv .1, l .inv .2), l .inv .3)
@@ -39,7 +38,7 @@ loop-again c =
       l .inv .0,
       omega arith,
       omega arith,
-      two-more (pool (a .points .now) (a .marks .now)) (a .used) (shownKey (a .key)) (a .status .now) (a .from) (l .i) (l .inv .3) (two .0) (two .1),
+      two-more (pool (a .points .now) (a .marks .now)) (a .used) (a .bounds) (a .status .now) (a .from) (l .i) (l .inv .3) (two .0) (two .1),
     )
 
 returns-3 : tie.Need-returns-3 Inv-loop μ-loop

@@ -6,22 +6,22 @@ use Rattle.sweep_events.proofs.clear.both_lie_clear.Statement.{statemen
 use Rattle.sweep_events.proofs.clear.both_lie_clear.Tie as tie
 
 mate-at-requires : tie.Need-mate-at-requires
-mate-at-requires c κs = omega (arith, c .before .if1 .taken, c .before .before .pre .0 .2)
+mate-at-requires c κs = omega (arith, c .before .if1 .taken, c .before .before .pre .2)
 
 mate-at-requires-2 : tie.Need-mate-at-requires-2
-mate-at-requires-2 c κs = omega (arith, c .before .if2 .taken, c .before .before .before .pre .0 .2)
+mate-at-requires-2 c κs = omega (arith, c .before .if2 .taken, c .before .before .before .pre .2)
 
 point-at-requires : tie.Need-point-at-requires
-point-at-requires c κs = let k = c .before .before .before .before in omega (arith, k .before .if1 .taken, k .before .before .pre .0 .1)
+point-at-requires c κs = let k = c .before .before .before .before in omega (arith, k .before .if1 .taken, k .before .before .pre .1)
 
 point-at-requires-2 : tie.Need-point-at-requires-2
-point-at-requires-2 c κs = let k = c .before .before in omega (arith, k .if3 .taken, k .before .before .before .before .before .pre .0 .1)
+point-at-requires-2 c κs = let k = c .before .before in omega (arith, k .if3 .taken, k .before .before .before .before .before .pre .1)
 
 point-at-requires-3 : tie.Need-point-at-requires-3
-point-at-requires-3 c κs = let k = c .before .before .before .before .before .before in omega (arith, k .if2 .taken, k .before .before .pre .0 .1)
+point-at-requires-3 c κs = let k = c .before .before .before .before .before .before in omega (arith, k .if2 .taken, k .before .before .pre .1)
 
 point-at-requires-4 : tie.Need-point-at-requires-4
-point-at-requires-4 c κs = let k = c .before .before .before in omega (arith, k .if4 .taken, k .before .before .before .before .before .before .pre .0 .1)
+point-at-requires-4 c κs = let k = c .before .before .before in omega (arith, k .if4 .taken, k .before .before .before .before .before .before .pre .1)
 
 returns : tie.Need-returns
 returns c t =
@@ -29,7 +29,7 @@ returns c t =
     let three = four .before in
     let two = three .before .before .before in
     let one = two .before in
-    let r = one .before .pre .0 in
+    let r = one .before .pre in
     let both = c .are-clear .ensures t in (
       read-passed _ _ _ _ _ _ _ r (one .if1 .taken) (three .if3 .taken) (three .before .before .mate-at .ensures) _ _ (c .before .before .before .before .point-at .ensures) (c .before .before .before .point-at2 .ensures) (both .0),
       read-passed _ _ _ _ _ _ _ r (two .if2 .taken) (four .if4 .taken) (three .before .mate-at2 .ensures) _ _ (c .before .before .point-at3 .ensures) (c .before .point-at4 .ensures) (both .1),
@@ -57,7 +57,7 @@ both-lie-clear-spec =
     point-at-requires-2
     point-at-requires-3
     point-at-requires-4
-    (λ c κs. c .before .before .before .before .before .before .before .before .before .before .pre .1)
+    (λ c κs. tt)
     returns
     returns-2
     returns-3

@@ -13,15 +13,15 @@ use Rattle.sweep_events.proofs.slots.slot_below.Statement.{statement}
 use Rattle.sweep_events.proofs.slots.slot_below.Tie as tie
 
 abbrev Inv-loop : tie.InvT-loop
-Inv-loop points marks used status n e mode key low ready end i₀ i = (end ≡ length (take n status)) × (end ≤ length status) × (i ≤ end) × Standing (isBelow atBinary64 stored (inMode mode) (pool points marks) used e) status n i
+Inv-loop points marks used status n e mode key bounds ready end i₀ i = (end ≡ length (take n status)) × (end ≤ length status) × (i ≤ end) × Standing (isBelow atBinary64 stored (inMode mode) (pool points marks) used e) status n i
 
 abbrev μ-loop : tie.MeasureT-loop
-μ-loop points marks used status n e mode key low ready end i₀ i = end - i
+μ-loop points marks used status n e mode key bounds ready end i₀ i = end - i
 
 after-clear-requires : tie.Need-after-clear-requires Inv-loop μ-loop
 after-clear-requires c κs =
     let a = c .before .before .before .before .before .args in
-    let q = length-take (a .n) (a .status .now) in (c .before .ready-of .ensures, (c .before .before .lower-of .ensures, (omega arith, omega (arith, q, c .count .ensures))))
+    let q = length-take (a .n) (a .status .now) in (c .before .ready-of .ensures, (omega arith, omega (arith, q, c .count .ensures)))
 
 loop-holds : tie.Need-loop-holds Inv-loop μ-loop
 loop-holds c =
@@ -31,7 +31,7 @@ loop-holds c =
       c .before .count .ensures,
       omega (arith, q, c .before .count .ensures),
       r .0 .1,
-      after-passed _ _ _ _ _ (c .before .before .before .before .key-used .ensures) _ _ 0 _ (r .0 .0) (omega (arith, r .0 .1, c .before .count .ensures)) (r .1) (begun _ _ _),
+      after-passed _ _ _ _ _ (c .before .before .before .before .key-used .ensures) _ (c .before .before .before .bounds-of .ensures) _ _ 0 _ (r .0 .0) (omega (arith, r .0 .1, c .before .count .ensures)) (r .1) (begun _ _ _),
     )
 
 mul-goes-below : tie.Need-mul-goes-below Inv-loop μ-loop
@@ -52,7 +52,7 @@ add-after-clear c = omega arith
 after-clear-requires-2 : tie.Need-after-clear-requires-2 Inv-loop μ-loop
 after-clear-requires-2 c κs =
     let b = c .before .before .before .before in
-    let k = b .before .before .before in (k .ready-of .ensures, (k .before .lower-of .ensures, (omega arith, b .loop .inv .1)))
+    (b .before .before .before .ready-of .ensures, (omega arith, b .loop .inv .1))
 
 loop-less : tie.Need-loop-less Inv-loop μ-loop
 loop-less c = let r = c .after-clear2 .ensures in omega (arith, r .0 .0, r .0 .1)
@@ -66,7 +66,7 @@ loop-again c =
       l .inv .0,
       l .inv .1,
       r .0 .1,
-      after-passed _ _ _ _ _ key _ _ (l .i + 1) _ (r .0 .0) (omega (arith, r .0 .1, l .inv .0)) (r .1)
+      after-passed _ _ _ _ _ key _ (b .before .before .before .before .bounds-of .ensures) _ _ (l .i + 1) _ (r .0 .0) (omega (arith, r .0 .1, l .inv .0)) (r .1)
           (passed _ _ _ (l .i) (omega arith) (l .inv .3) (below-is _ _ _ _ _ _ _ key (c .before .before .goes-below .ensures)) (c .before .if1 .left)),
     )
 
