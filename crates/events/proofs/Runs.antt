@@ -177,6 +177,10 @@ module _ (p q : Point) where
   unfolding atBinary64
   lower-y h k i = lt-place _ _ (value-finite (p .y)) (value-finite (q .y)) ∙ lt-ltb _ _ (lower (q .y) (p .y) h k i)
 
+  pub lower-x : Word (q .x) → Word (p .x) → inRun (lowerWords (q .x)) (p .x) ≡ true → atBinary64 .lessX p q ≡ true
+  unfolding atBinary64
+  lower-x h k i = lt-place _ _ (value-finite (p .x)) (value-finite (q .x)) ∙ lt-ltb _ _ (lower (q .x) (p .x) h k i)
+
   pub at-most-x : Word (q .x) → Word (p .x) → inRun (atMostWords (q .x)) (p .x) ≡ true → atBinary64 .lessX q p ≡ false
   unfolding atBinary64
   at-most-x h k i = lt-place _ _ (value-finite (q .x)) (value-finite (p .x)) ∙ le-ltb _ _ (at-most (q .x) (p .x) h k i)

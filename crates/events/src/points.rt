@@ -155,26 +155,39 @@ fn is_below_zero(w: u64) -> bool
     false
 }
 
-// The words of a y lower than this point's.
-pub fn lower_y(p: Point) -> Run
-    ensures { λ r. ⌜ r ≡ lowerWords (p .y) ⌝ }
+// The words of a number lower than this word's.
+fn lower_than(w: u64) -> Run
+    ensures { λ r. ⌜ r ≡ lowerWords w ⌝ }
 {
-    if is_above_zero(p.y) {
+    if is_above_zero(w) {
         return Run {
             first: SIGN,
-            many: SIGN + p.y,
+            many: SIGN + w,
         };
     }
-    if is_below_zero(p.y) {
+    if is_below_zero(w) {
         return Run {
-            first: p.y + 1,
-            many: SIGN + INFINITY - p.y - 1,
+            first: w + 1,
+            many: SIGN + INFINITY - w - 1,
         };
     }
     Run {
         first: SIGN + 1,
         many: INFINITY - 1,
     }
+}
+
+// Of a y lower than this point's; of an x.
+pub fn lower_y(p: Point) -> Run
+    ensures { λ r. ⌜ r ≡ lowerWords (p .y) ⌝ }
+{
+    lower_than(p.y)
+}
+
+pub fn lower_x(p: Point) -> Run
+    ensures { λ r. ⌜ r ≡ lowerWords (p .x) ⌝ }
+{
+    lower_than(p.x)
 }
 
 // Of an x not higher.

@@ -3,6 +3,7 @@ pub mod Reaches
 pub mod Turns
 pub mod Flags
 pub mod Queued
+pub mod Sided
 pub mod Runs
 pub mod Abreast
 pub mod Walk

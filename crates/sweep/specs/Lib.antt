@@ -4,6 +4,7 @@ pub mod Bounds
 pub mod Event
 pub mod Run
 pub mod Lined
+pub mod Sides
 pub mod OnPool
 pub mod Answer
 pub mod Turn

@@ -8,12 +8,40 @@ ghost use Rattle.events.specs.Store.{look};
 ghost use Rattle.checks.specs.Checks.{maxEvents};
 ghost use Rattle.waiting.specs.Waiting.{flagged, beforeUsed};
 ghost use Rattle.waiting.specs.Queue as Queue;
+ghost use Rattle.sweep.specs.Sides.{SidesOf};
+use events::points::Run;
+use events::points::has_x;
+use events::points::higher_x;
+use events::points::lower_x;
 use events::pool::read_used;
 use lists::insert_at;
 use lists::remove_at;
 use status::slot_of;
 use waiting::is_waiting;
 use waiting::leads;
+
+// Whether member a leads x, to whose point these runs belong: of most members x alone tells, and one subtraction.
+fn leads_by(
+    points: &[[u64; 2]],
+    marks: &[[u32; 12]],
+    used: u32,
+    a: u32,
+    x: u32,
+    left: Run,
+    right: Run,
+) -> bool
+    requires { ⌜ SidesOf (look stored (pool (now points) (now marks)) used x .point) left right ⌝ }
+    ensures { λ r. ⌜ r ≡ Queue.leads (beforeUsed (pool (now (points .entry)) (now (marks .entry))) used) a x ⌝ }
+{
+    let e = read_used(points, marks, used, a);
+    if has_x(left, e.point) {
+        return true;
+    }
+    if has_x(right, e.point) {
+        return false;
+    }
+    leads(points, marks, used, a, x)
+}
 
 // The place of a new member, by halving.
 fn place_of(
@@ -28,11 +56,14 @@ fn place_of(
     ensures { λ r. ⌜ r ≡ Queue.place (beforeUsed (pool (now (points .entry)) (now (marks .entry))) used) (take n (now (queue .entry))) x ⌝ }
     ensures { λ r. ⌜ r ≤ n ⌝ }
 {
+    let e = read_used(points, marks, used, x);
+    let left = lower_x(e.point);
+    let right = higher_x(e.point);
     let mut lo = 0;
     let mut hi = n as usize;
     while lo < hi {
         let m = (lo + hi) / 2;
-        if leads(points, marks, used, queue[m], x) {
+        if leads_by(points, marks, used, queue[m], x, left, right) {
             hi = m;
         } else {
             lo = m + 1;
