@@ -29,17 +29,18 @@ pub fn at_once<'a>(run: impl FnMut() + 'a) -> Way<'a> {
     Way { prepare: Box::new(|| ()), run: Box::new(run) }
 }
 
-/// All ways in turn, so that they meet the same machine.
+/// All ways in turn, so that they meet the same machine; each round begins with another, so that none is always the first.
 pub fn quickest<const N: usize>(mut ways: [Way; N]) -> [f64; N] {
     let mut best = [f64::INFINITY; N];
     let first = now();
     let mut rounds = 0;
     while rounds < FEWEST || now() - first < LONG_ENOUGH * N as u64 {
-        for (way, best) in ways.iter_mut().zip(&mut best) {
-            (way.prepare)();
+        for turn in 0..N {
+            let i = (rounds + turn) % N;
+            (ways[i].prepare)();
             let start = now();
-            (way.run)();
-            *best = best.min((now() - start) as f64 / 1000.0);
+            (ways[i].run)();
+            best[i] = best[i].min((now() - start) as f64 / 1000.0);
         }
         rounds += 1;
     }

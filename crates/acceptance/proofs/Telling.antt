@@ -17,12 +17,21 @@ use Rattle.acceptance.proofs.Backwards.{one-back, at-front}
 
 -- ---- one record more looked at
 
+-- it is struck, or all stays
+module _ (number r : ℕ) (told : Check) {with-it : Check} {t : Bool} where
+  pub struck : t ≡ true → with-it ≡ toldAlso told number r true → with-it ≡ toldAlso told number r t
+  struck h e = rw h e
+
+  pub kept : t ≡ false → with-it ≡ told → with-it ≡ toldAlso told number r t
+  unfolding toldAlso
+  kept h e = rw h e
+
 module _ (number : ℕ) (test : ℕ → Bool) where
   pub none-struck : toldLowest number test [] ≡ Passed
   unfolding toldLowest refusedAt lowest
   none-struck = refl
 
-  pub one-more : (r : ℕ) (l : List ℕ) → toldLowest number test (r ∷ l) ≡ toldAlso (toldLowest number test l) number r (test r)
+  one-more : (r : ℕ) (l : List ℕ) → toldLowest number test (r ∷ l) ≡ toldAlso (toldLowest number test l) number r (test r)
   unfolding toldLowest refusedAt lowest toldAlso atMost
   one-more r l = by (test r) (lowest test l)
     where
@@ -30,6 +39,10 @@ module _ (number : ℕ) (test : ℕ → Bool) where
       by false o = refl
       by true none = refl
       by true (some q) = refl
+
+  pub with-one : (r : ℕ) (l : List ℕ) {told with-it : Check} → told ≡ toldLowest number test l → with-it ≡ toldAlso told number r (test r)
+      → with-it ≡ toldLowest number test (r ∷ l)
+  with-one r l e f = f ∙ rw (e, one-more r)
 
   -- with its partner
   module _ {P : Type 0} (row : ℕ → Event P) (n : ℕ) where

@@ -1,5 +1,6 @@
 // The lowest record of a list that has a flaw.
 ghost use mathlib.Core.Path.{_≡_};
+ghost use mathlib.Core.Bool.{true};
 ghost use Prim.Native.Nat.{min};
 ghost use Rattle.events.specs.Pool.{pool};
 ghost use Rattle.acceptance.specs.OnPool.{toldFlaw};
@@ -19,21 +20,18 @@ fn lower(a: u64, b: u64) -> u64
     b
 }
 
-// The same check with one more record looked at.
-pub fn told_also(told: Check, number: u64, r: u32, struck: bool) -> Check
-    ensures { λ x. ⌜ x ≡ toldAlso told number r struck ⌝ }
+// The same check with one more record that is struck.
+pub fn told_with(told: Check, number: u64, r: u32) -> Check
+    ensures { λ x. ⌜ x ≡ toldAlso told number r true ⌝ }
 {
-    if struck {
-        let place = r as u64;
-        return match told {
-            Check::Passed => Check::Refused(Refusal { number, place }),
-            Check::Refused(least) => Check::Refused(Refusal {
-                number,
-                place: lower(place, least.place),
-            }),
-        };
+    let place = r as u64;
+    match told {
+        Check::Passed => Check::Refused(Refusal { number, place }),
+        Check::Refused(least) => Check::Refused(Refusal {
+            number,
+            place: lower(place, least.place),
+        }),
     }
-    told
 }
 
 // Refused at the lowest record with the flaw.
@@ -52,7 +50,10 @@ pub fn check_flaw(
     while i > 0 {
         i -= 1;
         let r = list[i];
-        told = told_also(told, number, r, is_flawed(points, marks, seen, flaw, r));
+        // few records are struck: what is told is not handed on for each of them
+        if is_flawed(points, marks, seen, flaw, r) {
+            told = told_with(told, number, r);
+        }
     }
     told
 }

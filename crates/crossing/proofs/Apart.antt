@@ -11,8 +11,7 @@ use Rattle.crossing.specs.declared.modes.Segment.{Segment}
 use Rattle.crossing.specs.declared.modes.Pair.{Pair}
 use Rattle.crossing.specs.Modes.{plain, segment, pair, endsInOrder, comesFirst, inOrder, unsignedSegment, orderedPair, namedIn}
 use Rattle.crossing.specs.Crossing.{inBox, intersectionOf, intersectionOfPair, intersectionIn}
-use Rattle.crossing.specs.Quick.{AllLess}
-use Rattle.crossing.proofs.Gap.{box-above, box-below}
+use Rattle.crossing.proofs.Gap.{AllLess, box-above, box-below}
 
 -- ---- the first lies all below the second
 abbrev Below : Segment → Segment → Type 0

@@ -7,7 +7,13 @@ use Rattle.numbers.specs.declared.Coordinate.{Coordinate}
 use Rattle.numbers.proofs.OneWay.{one-way, not-most, lesser-number, greater-number}
 use Rattle.crossing.specs.declared.boxes.Boxes.the-variants.{Apart}
 use Rattle.crossing.specs.Boxes.{lesser, greater, boxFrom, sharedBox}
-use Rattle.crossing.specs.Quick.{AllLess}
+
+-- each of a and b is less than each of c and d
+pub record AllLess (a b c d : Float) : Type 0 where
+  pub a-c : lt a c ≡ true
+  pub a-d : lt a d ≡ true
+  pub b-c : lt b c ≡ true
+  pub b-d : lt b d ≡ true
 
 -- the shared box in y, of the lesser and the greater height of each: whichever segment is named first, it ends below its start
 record Gap (l g s h : Float) : Type 0 where

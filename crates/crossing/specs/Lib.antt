@@ -5,5 +5,4 @@ pub mod Lines
 pub mod Modes
 pub mod Crossing
 pub mod Answer
-pub mod Quick
 pub mod KeepsBits

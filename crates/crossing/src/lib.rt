@@ -7,7 +7,6 @@ use refusals::Refusal;
 mod boxes;
 mod lines;
 mod modes;
-mod quick;
 
 use modes::Pair;
 use modes::Segment;
@@ -52,12 +51,6 @@ pub fn intersection(
 ) -> LineIntersection
     ensures { λ r. ⌜ r ≡ intersectionIn mode a1 a2 b1 b2 ⌝ }
 {
-    // As they are named the boxes tell as soon.
-    if mode != PLAIN {
-        if quick::lie_apart(a1, a2, b1, b2) {
-            return LineIntersection::None;
-        }
-    }
     let a = Segment { from: a1, to: a2 };
     let b = Segment { from: b1, to: b2 };
     let named = modes::named_in(mode, Pair { a: a, b: b });

@@ -1,4 +1,4 @@
--- The event record over any kind of coordinate, another numbering of records, the pool that holds records and what is left of it as lent, binary64 as the kind that the code uses, and runs of its words.
+-- The event record over any kind of coordinate, another numbering of records, the pool that holds records and what is left of it as lent, binary64 as the kind that the code uses, and quick tests: by runs of its words, and of segments that lie apart.
 pub mod Coordinates
 pub mod Event
 pub mod Renaming
@@ -7,3 +7,4 @@ pub mod Pool
 pub mod Lent
 pub mod Binary64
 pub mod Runs
+pub mod Under

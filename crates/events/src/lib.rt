@@ -26,22 +26,22 @@ pub enum Link {
     To(u32),
 }
 
-// One end of an edge.
+// One end of an edge. Fields of one size stand together, so that an end is copied in whole words.
 pub struct Event {
     pub point: Point,
-    pub left: bool,
-    pub subject: bool,
     pub ring: u32,
     // The number of the other end's record.
     pub partner: u32,
     // The next edge below that is in the result (`prev_in_result`).
     pub below: Link,
-    pub edge_type: EdgeType,
-    pub transition: ResultTransition,
-    pub in_out: bool,
-    pub other_in_out: bool,
     // The contour that the edge is walked in (`output_contour_id`).
     pub contour: Link,
+    pub left: bool,
+    pub subject: bool,
+    pub in_out: bool,
+    pub other_in_out: bool,
+    pub edge_type: EdgeType,
+    pub transition: ResultTransition,
 }
 
 // An end that nothing is known of yet.

@@ -4,6 +4,7 @@ ghost use mathlib.Core.Path.{_≡_};
 ghost use mathlib.Core.Bool.{not};
 ghost use Rattle.events.specs.Binary64.{atBinary64, asLoaded, crossOf, inMode, shownMeeting};
 ghost use Rattle.events.specs.Coordinates.{same, ahead};
+ghost use Rattle.events.specs.Under.{under};
 ghost use Rattle.events.specs.Runs.{inRun, aboveZero, belowZero, lowerWords, atMostWords, higherWords};
 use crossing::LineIntersection;
 use crossing::intersection;
@@ -130,10 +131,30 @@ fn in_words(found: LineIntersection) -> Meeting
     }
 }
 
-// Of the first segment and the second.
+// In y all of the segment from a1 to a2 lies below all of that from b1 to b2.
+pub fn is_under(a1: Point, a2: Point, b1: Point, b2: Point) -> bool
+    ensures { λ r. ⌜ r ≡ under atBinary64 a1 a2 b1 b2 ⌝ }
+{
+    if less_y(a1, b1) {
+        if less_y(a1, b2) {
+            if less_y(a2, b1) {
+                return less_y(a2, b2);
+            }
+        }
+    }
+    false
+}
+
+// Of the first segment and the second. Many neighbours lie apart: of those no number is made but four.
 pub fn crossing(mode: u32, a1: Point, a2: Point, b1: Point, b2: Point) -> Meeting
     ensures { λ r. ⌜ shownMeeting r ≡ inMode mode a1 a2 b1 b2 ⌝ }
 {
+    if is_under(a1, a2, b1, b2) {
+        return Meeting::Nothing;
+    }
+    if is_under(b1, b2, a1, a2) {
+        return Meeting::Nothing;
+    }
     in_words(intersection(mode, value_of(a1), value_of(a2), value_of(b1), value_of(b2)))
 }
 

@@ -3,7 +3,7 @@ use mathlib.Core.Path.{_≡_, refl, sym, ap, _∙_}
 use mathlib.Core.Bool.{Bool, true, false, not, _&&_, _||_, Bool·beq, cond, true≢false, false≢true}
 use Rattle.events.specs.Coordinates.{Coordinates, same, ahead}
 use Rattle.events.specs.Event.{Key}
-use Rattle.order.specs.Order.{byNumber, byEnd, before, onSide, oneWay, tied}
+use Rattle.order.specs.Order.{byNumber, byEnd, beforeThere, before, onSide, oneWay, tied}
 use Rattle.order.proofs.Steps.{Both}
 use Rattle.order.proofs.Grid as G
 use Rattle.order.proofs.Grid.{Spot, grid, same-spot, same-self}
@@ -36,6 +36,18 @@ left-before-right C a b l r = rw (l, r, last (C .lessY (a .point) (b .point)) (C
     last true v = refl
     last false true = refl
     last false false = refl
+
+-- where neither point is ahead, what is asked at one point decides
+pub before-there : {P : Type 0} (C : Coordinates P) (a b : Key P) → ahead C (a .point) (b .point) ≡ false → ahead C (b .point) (a .point) ≡ false → before C a b ≡ beforeThere C a b
+unfolding before ahead byNumber
+before-there C a b = go (C .lessX (a .point) (b .point)) (C .lessX (b .point) (a .point)) (C .lessY (a .point) (b .point)) (C .lessY (b .point) (a .point)) (beforeThere C a b)
+  where
+    go : (x x' y y' rest : Bool) → cond x true (cond x' false y) ≡ false → cond x' true (cond x false y') ≡ false → cond x true (cond x' false (cond y true (cond y' false rest))) ≡ rest
+    go true x' y y' rest h k = absurd (true≢false h)
+    go false true y y' rest h k = absurd (true≢false k)
+    go false false true y' rest h k = absurd (true≢false h)
+    go false false false true rest h k = absurd (true≢false k)
+    go false false false false rest h k = refl
 
 module _ {P : Type 0} {C : Coordinates P} (L : OrderLaws C) where
   -- ---- everything by the places

@@ -28,13 +28,18 @@ byTurn left Zero rest = rest
 unfoldable pub byLayer : Bool → Bool → Bool
 byLayer subject subject' = subject || not subject'
 
+-- of two at one point
+abbrev pub beforeThere : {P : Type 0} → Coordinates P → Key P → Key P → Bool
+beforeThere C a b =
+    byEnd (a .left) (b .left)
+    (byTurn (a .left) (C .turn (a .point) (a .mate) (b .mate))
+    (byLayer (a .subject) (b .subject)))
+
 unfoldable pub before : {P : Type 0} → Coordinates P → Key P → Key P → Bool
 before C a b =
     byNumber (C .lessX (a .point) (b .point)) (C .lessX (b .point) (a .point))
     (byNumber (C .lessY (a .point) (b .point)) (C .lessY (b .point) (a .point))
-    (byEnd (a .left) (b .left)
-    (byTurn (a .left) (C .turn (a .point) (a .mate) (b .mate))
-    (byLayer (a .subject) (b .subject)))))
+    (beforeThere C a b))
 
 -- ---- what the laws speak of
 

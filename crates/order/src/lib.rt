@@ -4,24 +4,25 @@ ghost use Rattle.events.specs.Binary64.{atBinary64};
 ghost use Rattle.events.specs.Event.{shown, key};
 ghost use Rattle.events.specs.Pool.{pool, stored};
 ghost use Rattle.order.specs.Order as Order;
-ghost use Rattle.order.specs.Order.{byTurn, byLayer};
+ghost use Rattle.order.specs.Order.{byTurn, byLayer, beforeThere, isZero, tied};
 ghost use Rattle.order.specs.Keys.{shownKey, keyAt, keyUsed};
 use events::Event;
 use events::points::less_x;
 use events::points::less_y;
+use events::points::same_point;
 use events::points::turn;
 use events::pool::read_event;
 use events::pool::read_used;
 use numbers::Point;
 use orientation::Sign;
 
-// What the orders see of a record and its partner.
+// What the orders see of a record and its partner. The points come first: so a point is copied as a whole.
 pub struct Key {
     pub point: Point,
+    pub mate: Point,
     pub left: bool,
     pub subject: bool,
     pub ring: u32,
-    pub mate: Point,
 }
 
 // Of two ends alike at one point: the lower direction first, then subject before clip.
@@ -33,6 +34,16 @@ fn before_by_direction(a: Key, b: Key) -> bool
         Sign::Zero => a.subject || !b.subject,
         Sign::Positive => a.left,
     }
+}
+
+// Whether a comes before b, where both stand at one point.
+pub fn before_there(a: Key, b: Key) -> bool
+    ensures { λ r. ⌜ r ≡ beforeThere atBinary64 (shownKey a) (shownKey b) ⌝ }
+{
+    if a.left != b.left {
+        return b.left;
+    }
+    before_by_direction(a, b)
 }
 
 // Whether a comes before b; both ways for a tie.
@@ -51,10 +62,31 @@ pub fn before(a: Key, b: Key) -> bool
     if less_y(b.point, a.point) {
         return false;
     }
-    if a.left != b.left {
-        return b.left;
+    before_there(a, b)
+}
+
+pub fn is_zero(sign: Sign) -> bool
+    ensures { λ r. ⌜ r ≡ isZero sign ⌝ }
+{
+    match sign {
+        Sign::Positive => false,
+        Sign::Zero => true,
+        Sign::Negative => false,
     }
-    before_by_direction(a, b)
+}
+
+// Whether each comes before the other, by one turn.
+pub fn are_tied(a: Key, b: Key) -> bool
+    ensures { λ r. ⌜ r ≡ tied atBinary64 (shownKey a) (shownKey b) ⌝ }
+{
+    if same_point(a.point, b.point) {
+        if a.left == b.left {
+            if a.subject == b.subject {
+                return is_zero(turn(a.point, a.mate, b.mate));
+            }
+        }
+    }
+    false
 }
 
 // The key of a record and its partner's point.

@@ -8,22 +8,18 @@ use Rattle.orientation.specs.declared.Sign.{Sign}
 use Rattle.orientation.specs.declared.Sign.the-variants.{Negative, Positive}
 use Rattle.events.specs.Coordinates.{Coordinates, same, Crossing, none}
 use Rattle.events.specs.Event.{Key}
+use Rattle.events.proofs.Parted.{Below, Parts, both, is-under}
 use Rattle.order.specs.Order.{byNumber, before, isZero}
 use Rattle.order.proofs.Steps.{sign-positive, sign-negative}
 use Rattle.order.proofs.Grid.{Spot, grid, plus, minus}
 use Rattle.order.proofs.Laws.{OrderLaws}
 use Rattle.segments.specs.declared.Ordering.the-variants.{Less, Greater}
 use Rattle.segments.specs.Segments.{isPositive, lessIfInversed, byCrossing, apart, oldBelow, compareSegments}
-use Rattle.segments.specs.Quick.{beside, under}
+use Rattle.segments.specs.Quick.{beside, liesUnder}
 use Rattle.segments.proofs.Heights as Heights
 use Rattle.segments.proofs.Places.{less-x, not-less-x, less-y, not-higher, not-level, not-level-turned}
-use Rattle.segments.proofs.Boxes.{Below, Parts}
 
 -- ---- what the tests tell
-pub both : (p q : Bool) → (p && q) ≡ true → (p ≡ true) × (q ≡ true)
-both true q h = (refl, h)
-both false q h = absurd (false≢true h)
-
 pub not-so : (t : Bool) → not t ≡ true → t ≡ false
 not-so true h = absurd (false≢true h)
 not-so false h = refl
@@ -102,18 +98,9 @@ module _ {P : Type 0} {C : Coordinates P} (L : OrderLaws C) (old new : Key P) wh
         let cross = K .below (new .point) (new .mate) (old .point) (old .mate) r in
         rw (newer b t, decided C crossing old new Negative refl (right-turn b r) cross (not-level-turned L _ _ (r .a-c)) (not-higher L _ _ (r .a-c)))
 
-module _ {P : Type 0} {C : Coordinates P} (low high : Key P) where
-  is-under : under C low high ≡ true → Below C (low .point) (low .mate) (high .point) (high .mate)
-  unfolding under
-  is-under t =
-      let one = both _ _ t in
-      let two = both _ _ (one .1) in
-      let three = both _ _ (two .1) in
-      record { a-c = one .0; a-d = two .0; b-c = three .0; b-d = three .1 }
-
 module _ {P : Type 0} {C : Coordinates P} (L : OrderLaws C) {crossing : Crossing P} (K : Parts C crossing) (old new : Key P) (t : beside C old new ≡ true) where
-  pub above : under C old new ≡ true → compareSegments C crossing new old ≡ Greater
-  above u = lies-above L old new K (is-beside L old new t) (is-under old new u)
+  pub above : liesUnder C old new ≡ true → compareSegments C crossing new old ≡ Greater
+  above u = lies-above L old new K (is-beside L old new t) (is-under _ _ _ _ u)
 
-  pub below : C .lessX (old .point) (new .point) ≡ true → under C new old ≡ true → compareSegments C crossing new old ≡ Less
-  below v u = lies-below L old new K (is-beside L old new t) v (is-under new old u)
+  pub below : C .lessX (old .point) (new .point) ≡ true → liesUnder C new old ≡ true → compareSegments C crossing new old ≡ Less
+  below v u = lies-below L old new K (is-beside L old new t) v (is-under _ _ _ _ u)

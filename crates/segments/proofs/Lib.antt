@@ -1,7 +1,6 @@
 -- Laws of segment order.
 pub mod Heights
 pub mod Places
-pub mod Boxes
 pub mod Certain
 pub mod Agreement
 pub mod Crossings

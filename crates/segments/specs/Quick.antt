@@ -3,6 +3,7 @@
 use mathlib.Core.Bool.{Bool, not, _&&_, cond}
 use Rattle.events.specs.Coordinates.{Coordinates}
 use Rattle.events.specs.Event.{Key}
+use Rattle.events.specs.Under.{under}
 use Rattle.segments.specs.declared.ByBoxes.{ByBoxes}
 use Rattle.segments.specs.declared.ByBoxes.the-variants.{Less, Greater, Open}
 
@@ -13,14 +14,12 @@ module _ {P : Type 0} (C : Coordinates P) where
       not (C .lessX (new .point) (old .point)) && (not (C .lessX (old .mate) (new .point)) && C .lessX (old .point) (old .mate))
 
   -- in y all of the one lies below all of the other
-  unfoldable pub under : Key P → Key P → Bool
-  under low high =
-      C .lessY (low .point) (high .point)
-      && (C .lessY (low .point) (high .mate) && (C .lessY (low .mate) (high .point) && C .lessY (low .mate) (high .mate)))
+  abbrev pub liesUnder : Key P → Key P → Bool
+  liesUnder low high = under C (low .point) (low .mate) (high .point) (high .mate)
 
   -- what the boxes tell, where the second segment is the older one: at one x the lower one is
   unfoldable pub byBoxes : Key P → Key P → ByBoxes
   byBoxes new old =
       cond (beside old new)
-      (cond (under old new) Greater (cond (C .lessX (old .point) (new .point)) (cond (under new old) Less Open) Open))
+      (cond (liesUnder old new) Greater (cond (C .lessX (old .point) (new .point)) (cond (liesUnder new old) Less Open) Open))
       Open

@@ -5,13 +5,13 @@ ghost use mathlib.Core.Path.{_≡_};
 ghost use Rattle.events.specs.Binary64.{atBinary64, inMode, shownMeeting};
 ghost use Rattle.events.specs.Pool.{pool};
 ghost use Rattle.order.specs.Keys.{shownKey};
-ghost use Rattle.order.specs.Order.{isZero};
 ghost use Rattle.segments.specs.Segments as Segments;
 ghost use Rattle.segments.specs.Segments.{isPositive, lessIf, lessIfInversed, alongside, byCrossing, oldBelow};
 ghost use Rattle.segments.specs.OnPool as OnPool;
 ghost use Rattle.segments.specs.Quick.{byBoxes};
 use events::points::Meeting;
 use events::points::crossing;
+use events::points::is_under;
 use events::points::less_x;
 use events::points::less_y;
 use events::points::same_point;
@@ -19,10 +19,10 @@ use events::points::same_x;
 use events::points::turn;
 use order::Key;
 use order::before;
+use order::is_zero;
 use order::key_at;
 use orientation::Sign;
 use quick::is_beside;
-use quick::is_under;
 
 pub enum Ordering {
     Less,
@@ -56,16 +56,6 @@ fn is_positive(sign: Sign) -> bool
     match sign {
         Sign::Positive => true,
         Sign::Zero => false,
-        Sign::Negative => false,
-    }
-}
-
-fn is_zero(sign: Sign) -> bool
-    ensures { λ r. ⌜ r ≡ isZero sign ⌝ }
-{
-    match sign {
-        Sign::Positive => false,
-        Sign::Zero => true,
         Sign::Negative => false,
     }
 }
@@ -148,12 +138,12 @@ fn by_boxes(a: Key, b: Key) -> ByBoxes
     ensures { λ r. ⌜ r ≡ byBoxes atBinary64 (shownKey a) (shownKey b) ⌝ }
 {
     if is_beside(b, a) {
-        if is_under(b, a) {
+        if is_under(b.point, b.mate, a.point, a.mate) {
             return ByBoxes::Greater;
         }
         // at one x the lower one is the older
         if less_x(b.point, a.point) {
-            if is_under(a, b) {
+            if is_under(a.point, a.mate, b.point, b.mate) {
                 return ByBoxes::Less;
             }
         }

@@ -3,9 +3,8 @@
 ghost use mathlib.Core.Path.{_≡_};
 ghost use Rattle.events.specs.Binary64.{atBinary64};
 ghost use Rattle.order.specs.Keys.{shownKey};
-ghost use Rattle.segments.specs.Quick.{beside, under};
+ghost use Rattle.segments.specs.Quick.{beside};
 use events::points::less_x;
-use events::points::less_y;
 use order::Key;
 
 // In x the newer one starts between the older one's ends or at one of them, and the older one is not vertical.
@@ -19,18 +18,4 @@ pub fn is_beside(old: Key, new: Key) -> bool
         return false;
     }
     less_x(old.point, old.mate)
-}
-
-// In y all of the one lies below all of the other.
-pub fn is_under(low: Key, high: Key) -> bool
-    ensures { λ r. ⌜ r ≡ under atBinary64 (shownKey low) (shownKey high) ⌝ }
-{
-    if less_y(low.point, high.point) {
-        if less_y(low.point, high.mate) {
-            if less_y(low.mate, high.point) {
-                return less_y(low.mate, high.mate);
-            }
-        }
-    }
-    false
 }

@@ -22,7 +22,7 @@ use Rattle.order.proofs.AtBinary64.{laws}
 use Rattle.segments.specs.declared.Ordering.the-variants.{Greater}
 use Rattle.segments.specs.Segments.{compareSegments}
 use Rattle.segments.proofs.Places.{less-x, not-less-x, less-y, not-less-y, is-less-y}
-use Rattle.segments.proofs.Boxes.{Parts, parts}
+use Rattle.events.proofs.Parted.{Parts, parts}
 use Rattle.segments.proofs.Certain.{lies-above}
 use Rattle.lists.proofs.Slots.{Standing, passed}
 use Rattle.sweep_events.specs.Event.{isLess, isBelow}

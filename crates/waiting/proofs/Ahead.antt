@@ -9,12 +9,12 @@ use Rattle.events.specs.Coordinates.{same, ahead}
 use Rattle.events.specs.Event.{key}
 use Rattle.events.specs.Pool.{Pool, stored}
 use Rattle.events.specs.Store.{look}
-use Rattle.events.specs.declared.Link.the-variants.{To}
 use Rattle.order.specs.Keys.{keyOf, keyUsed}
+use Rattle.order.specs.Order.{beforeThere}
 use Rattle.order.proofs.AtBinary64.{laws}
-use Rattle.order.proofs.Laws.{before-ahead, ahead-asym, ahead-ext, same-sym}
+use Rattle.order.proofs.Laws.{before-ahead, before-there, ahead-asym, ahead-ext, same-sym}
 use Rattle.waiting.specs.Waiting.{beforeUsed}
-use Rattle.waiting.specs.Queue.{leads, tiesWith}
+use Rattle.waiting.specs.Queue.{leads}
 
 -- points of which one is ahead are not one
 apart : (p q : Point) → ahead atBinary64 p q ≡ true → same atBinary64 p q ≡ false
@@ -58,6 +58,9 @@ module _ (p : Pool) (used a b : ℕ) (h : ahead atBinary64 (look stored p used a
       same-both true = refl
       same-both false = refl
 
-  pub ahead-unties : tiesWith (beforeUsed p used) a (To b) ≡ false
-  unfolding tiesWith
-  ahead-unties = rw (is-before, not-after)
+-- neither is: then what is asked at one point decides
+module _ (p : Pool) (used a b : ℕ) (h : ahead atBinary64 (look stored p used a .point) (look stored p used b .point) ≡ false)
+    (k : ahead atBinary64 (look stored p used b .point) (look stored p used a .point) ≡ false) where
+  pub one-point : beforeUsed p used a b ≡ beforeThere atBinary64 (keyUsed stored p used a) (keyUsed stored p used b)
+  unfolding beforeUsed keyUsed keyOf key
+  one-point = before-there atBinary64 (keyUsed stored p used a) (keyUsed stored p used b) h k

@@ -4,12 +4,15 @@ ghost use Rattle.events.specs.Binary64.{atBinary64};
 ghost use Rattle.events.specs.Coordinates.{ahead};
 ghost use Rattle.events.specs.Pool.{pool, stored};
 ghost use Rattle.events.specs.Store.{look};
+ghost use Rattle.order.specs.Keys.{keyUsed};
+ghost use Rattle.order.specs.Order.{beforeThere};
 ghost use Rattle.waiting.specs.Waiting.{flagged, beforeUsed};
 ghost use Rattle.waiting.specs.Queue as Queue;
 use events::Link;
 use events::points::is_ahead;
 use events::pool::read_used;
-use order::before;
+use order::are_tied;
+use order::before_there;
 use order::key_used;
 
 // Whether an event at place r has not been taken.
@@ -32,11 +35,11 @@ fn is_ahead_of(points: &[[u64; 2]], marks: &[[u32; 12]], used: u32, a: u32, b: u
     is_ahead(e.point, f.point)
 }
 
-// Whether record a comes before record b.
-pub fn is_before(points: &[[u64; 2]], marks: &[[u32; 12]], used: u32, a: u32, b: u32) -> bool
-    ensures { λ x. ⌜ x ≡ beforeUsed (pool (now (points .entry)) (now (marks .entry))) used a b ⌝ }
+// Whether record a comes before record b, where both stand at one point.
+fn is_before_there(points: &[[u64; 2]], marks: &[[u32; 12]], used: u32, a: u32, b: u32) -> bool
+    ensures { λ x. ⌜ x ≡ beforeThere atBinary64 (keyUsed stored (pool (now (points .entry)) (now (marks .entry))) used a) (keyUsed stored (pool (now (points .entry)) (now (marks .entry))) used b) ⌝ }
 {
-    before(
+    before_there(
         key_used(points, marks, used, a),
         key_used(points, marks, used, b),
     )
@@ -53,9 +56,9 @@ pub fn leads(points: &[[u64; 2]], marks: &[[u32; 12]], used: u32, a: u32, b: u32
         return false;
     }
     if a < b {
-        return is_before(points, marks, used, a, b);
+        return is_before_there(points, marks, used, a, b);
     }
-    !is_before(points, marks, used, b, a)
+    !is_before_there(points, marks, used, b, a)
 }
 
 // Whether record e ties with another, if there is one.
@@ -64,14 +67,9 @@ pub fn ties_with(points: &[[u64; 2]], marks: &[[u32; 12]], used: u32, e: u32, ot
 {
     match other {
         Link::None => false,
-        Link::To(r) => {
-            if is_ahead_of(points, marks, used, e, r) {
-                return false;
-            }
-            if is_before(points, marks, used, e, r) {
-                return is_before(points, marks, used, r, e);
-            }
-            false
-        }
+        Link::To(r) => are_tied(
+            key_used(points, marks, used, e),
+            key_used(points, marks, used, r),
+        ),
     }
 }

@@ -4,7 +4,7 @@ use mathlib.Core.Path.{sym}
 use Rattle.order.specs.Keys.{shownKey}
 use Rattle.order.proofs.AtBinary64.{laws}
 use Rattle.segments.specs.Segments.{compareSegments}
-use Rattle.segments.proofs.Boxes.{parts}
+use Rattle.events.proofs.Parted.{parts}
 use Rattle.segments.proofs.Agreement.{agrees}
 use Rattle.segments.proofs.compare_segments.Statement.{statement}
 use Rattle.segments.proofs.compare_segments.Tie as tie

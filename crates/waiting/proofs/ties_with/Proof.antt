@@ -1,36 +1,20 @@
--- By the points where they differ, else each test hands on to the next.
+-- Each is before the other exactly if they tie.
 use borrow.Author.Needs.{needs}
-use mathlib.Core.Path.{sym, _∙_}
+use mathlib.Core.Path.{sym}
+use Rattle.order.proofs.AtBinary64.{laws}
+use Rattle.order.proofs.Laws.{ties}
 use Rattle.waiting.specs.Queue.{tiesWith}
-use Rattle.waiting.proofs.Ahead.{ahead-unties}
+use Rattle.waiting.specs.Waiting.{beforeUsed}
 use Rattle.waiting.proofs.ties_with.Statement.{statement}
 use Rattle.waiting.proofs.ties_with.Tie as tie
 
 returns : tie.Need-returns
-returns c = rw (c .before .before .before .other .given .1) (sym (ahead-unties _ _ _ _ (sym (c .before .is-ahead-of .ensures) ∙ c .if1 .taken)))
+unfolding tiesWith
+returns c = rw (c .enum-told .given .1)
 
 returns-2 : tie.Need-returns-2
-unfolding tiesWith
-returns-2 c = rw (c .before .before .before .before .before .before .other .given .1, ← c .before .before .is-before .ensures, c .before .if2 .taken, c .is-before2 .ensures)
-
-returns-3 : tie.Need-returns-3
-unfolding tiesWith
-returns-3 c = rw (c .enum-told .given .1)
-
-returns-4 : tie.Need-returns-4
-unfolding tiesWith
-returns-4 c = rw (c .before .before .before .before .before .other .given .1, ← c .before .is-before .ensures, c .if2 .left)
+unfolding tiesWith beforeUsed
+returns-2 c = rw (c .before .before .before .before .other .given .1, c .are-tied .ensures, c .before .key-used2 .ensures, c .before .before .key-used .ensures) (sym (ties laws _ _))
 
 pub ties-with-spec : {M : Type 1} → statement M
-ties-with-spec =
-    tie.close
-    (tie.spec
-    (λ c. search needs)
-    (λ c. search needs)
-    (λ c κs. tt)
-    returns
-    (λ c κs. tt)
-    (λ c κs. tt)
-    returns-2
-    returns-3
-    returns-4)
+ties-with-spec = tie.close (tie.spec (λ c. search needs) (λ c. search needs) (λ c κs. tt) (λ c κs. tt) (λ c κs. tt) returns returns-2)

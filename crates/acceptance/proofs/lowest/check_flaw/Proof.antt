@@ -1,11 +1,11 @@
 -- From the list's end to its front, one record more each time.
-use mathlib.Core.Path.{sym, _∙_}
+use mathlib.Core.Path.{refl, sym, _∙_}
 use native.Mathlib.Omega.{arith}
 use Rattle.events.specs.Pool.{pool}
 use Rattle.contours.specs.Accept.{toldLowest}
 use Rattle.acceptance.specs.Flaws.{flawed}
 use Rattle.acceptance.specs.OnPool.{toldFlaw}
-use Rattle.acceptance.proofs.Telling.{Telling, none-struck, one-more, none-told, one-told, all-told}
+use Rattle.acceptance.proofs.Telling.{Telling, struck, kept, none-struck, with-one, none-told, one-told, all-told}
 use Rattle.acceptance.proofs.lowest.check_flaw.Statement.{statement}
 use Rattle.acceptance.proofs.lowest.check_flaw.Tie as tie
 
@@ -20,9 +20,16 @@ shared-slice-read-r c = omega (arith, c .before .before .loop .inv .within)
 
 loop-again : tie.Need-loop-again Inv-loop μ-loop
 loop-again c =
-    let begun = c .before .before .before .before .loop in
-    one-told _ _ _ _ (c .before .before .before .loop-test .taken) (begun .inv)
-    (λ l e. c .told-also .ensures ∙ rw (e, c .before .is-flawed .ensures) (sym (one-more _ _ _ l)))
+    let t = c .before in
+    let m = t .before .before in
+    one-told _ _ _ _ (m .before .loop-test .taken) (m .before .before .loop .inv)
+    (λ l e. with-one _ _ _ l e (struck _ _ _ (sym (t .before .is-flawed .ensures) ∙ t .if1 .taken) (c .told-with .ensures)))
+
+loop-again-2 : tie.Need-loop-again-2 Inv-loop μ-loop
+loop-again-2 c =
+    let m = c .before .before in
+    one-told _ _ _ _ (m .before .loop-test .taken) (m .before .before .loop .inv)
+    (λ l e. with-one _ _ _ l e (kept _ _ _ (sym (c .before .is-flawed .ensures) ∙ c .if1 .left) refl))
 
 returns : tie.Need-returns Inv-loop μ-loop
 unfolding toldFlaw
@@ -43,4 +50,6 @@ check-flaw-spec =
     (λ c κs. tt)
     (λ c. omega arith)
     loop-again
+    (λ c. omega arith)
+    loop-again-2
     returns)

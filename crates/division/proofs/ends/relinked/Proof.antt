@@ -98,7 +98,7 @@ module _ {M : Type 1} (𝓤 : URA M) (H : Heap 𝓤) (A : Atoms 𝓤) (W : Given
   made : Is T.the-row h′ (mach h′ ∷ [])
   made =
       let w = LL.owed T.the-type T′.the-laws h (LL.vals T.the-type T′.the-laws h) is in
-      LL.owes T.the-type T′.the-laws h′ (w .0, (refl, (w .1 .1 .0, (w .1 .1 .1 .0, ((refl, fits), w .1 .1 .1 .1 .1)))))
+      LL.owes T.the-type T′.the-laws h′ (w .0, (w .1 .0, ((refl, fits), (w .1 .1 .1 .0, (w .1 .1 .1 .1 .0, (refl, w .1 .1 .1 .1 .1 .1))))))
 
   abbrev Post : Val → SProp 𝓤
   Post = walkOf 𝓤 H A f.ended stayed (f.clauses 𝓤 H A at-mem run) .post ((tt, tt, tt, x, at), tt)

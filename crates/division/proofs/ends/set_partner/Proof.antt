@@ -65,7 +65,7 @@ module _ {M : Type 1} (𝓤 : URA M) (H : Heap 𝓤) (A : Atoms 𝓤) (W : Given
   made : n < 2 ^ 32 → Is T.the-row h (LL.vals T.the-type T′.the-laws h) → Is T.the-row h′ (LL.vals T.the-type T′.the-laws h′)
   made fits was =
       let w = LL.owed T.the-type T′.the-laws h (LL.vals T.the-type T′.the-laws h) was in
-      LL.owes T.the-type T′.the-laws h′ (w .0, (refl, (w .1 .1 .0, (w .1 .1 .1 .0, ((refl, fits), w .1 .1 .1 .1 .1)))))
+      LL.owes T.the-type T′.the-laws h′ (w .0, (w .1 .0, ((refl, fits), (w .1 .1 .1 .0, (w .1 .1 .1 .1 .0, (refl, w .1 .1 .1 .1 .1 .1))))))
 
   abbrev Post : Val → SProp 𝓤
   Post = walkOf 𝓤 H A f.ended stayed (f.clauses 𝓤 H A at-mem run) .post (((κ, tt), (q, tt), tt, x, at), tt)
@@ -94,8 +94,8 @@ module _ {M : Type 1} (𝓤 : URA M) (H : Heap 𝓤) (A : Atoms 𝓤) (W : Given
         opens ! tt T.the-row {h = h} b o (λ vs. spelt ! T.the-row (Is T.the-row) (shows 𝓤 H A T.the-row) (LL.vals T.the-type T′.the-laws) (LL.tells T.the-type T′.the-laws) fullShare h vs b o $
         move ! (1 ∷ []) $ peeks ! T.the-row (Is T.the-row) (shows 𝓤 H A T.the-row) h (LL.vals T.the-type T′.the-laws h) (λ was. move ! (1 ∷ 0 ∷ []) $
         -- [the struct's cell; what an Event owns; the open borrow; obs; auth; _3; …; _2; …; _1; …; room for _0; …]
-        assigns ! (of-opd ! (load ! (from ! (stop !)) (look ! 7 refl))) (from ! (hop ! (look ! 9 refl) (fld ! refl (stop !)))) (store-in ! 0 (sub ! 4 refl (whole !)) (tt, record { fits = gn .1 })) $
-        assigns ! (of-opd ! (load ! (from ! (stop !)) (look ! 5 refl))) (from ! (hop ! (look ! 9 refl) (fld ! refl (stop !)))) (store-in ! 0 (sub ! 1 refl (whole !)) (tt, tt)) $
+        assigns ! (of-opd ! (load ! (from ! (stop !)) (look ! 7 refl))) (from ! (hop ! (look ! 9 refl) (fld ! refl (stop !)))) (store-in ! 0 (sub ! 2 refl (whole !)) (tt, record { fits = gn .1 })) $
+        assigns ! (of-opd ! (load ! (from ! (stop !)) (look ! 5 refl))) (from ! (hop ! (look ! 9 refl) (fld ! refl (stop !)))) (store-in ! 0 (sub ! 5 refl (whole !)) (tt, tt)) $
         assigns ! (of-opd ! (unit-lit !)) (from ! (stop !)) (init ! 11 refl (tt, tt)) $
         move ! (1 ∷ []) $ drop ! $ owned ! T.the-row (Is T.the-row) ((LL.makes T.the-type T′.the-plain) 𝓤 H A) h′ _ (made (gn .1) was) $
         move ! (1 ∷ 0 ∷ []) $ closes ! tt T.the-row h′ (LL.vals T.the-type T′.the-laws h′) b o $

@@ -1,5 +1,5 @@
 -- Both are asked.
-use Rattle.segments.proofs.Certain.{both}
+use Rattle.events.proofs.Parted.{both}
 use Rattle.sweep_events.proofs.clear.are_clear.Statement.{statement}
 use Rattle.sweep_events.proofs.clear.are_clear.Tie as tie
 

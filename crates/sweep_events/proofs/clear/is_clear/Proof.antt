@@ -1,7 +1,7 @@
 -- The four tests of words are the law's; words fit.
 use mathlib.Core.Path.{sym, _∙_}
 use native.Mathlib.Omega.{arith}
-use Rattle.segments.proofs.Certain.{both}
+use Rattle.events.proofs.Parted.{both}
 use Rattle.sweep_events.proofs.Passing.{clear-above}
 use Rattle.sweep_events.proofs.clear.is_clear.Statement.{statement}
 use Rattle.sweep_events.proofs.clear.is_clear.Tie as tie

@@ -1,8 +1,8 @@
 -- The case that was matched picks the answer.
 use borrow.Author.Needs.{needs}
 use Rattle.order.specs.Order.{isZero}
-use Rattle.segments.proofs.is_zero.Statement.{statement}
-use Rattle.segments.proofs.is_zero.Tie as tie
+use Rattle.order.proofs.is_zero.Statement.{statement}
+use Rattle.order.proofs.is_zero.Tie as tie
 
 returns : tie.Need-returns
 unfolding isZero

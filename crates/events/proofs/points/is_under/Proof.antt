@@ -1,7 +1,7 @@
 -- Each return rewrites by the tests that led to it.
-use Rattle.segments.specs.Quick.{under}
-use Rattle.segments.proofs.quick.is_under.Statement.{statement}
-use Rattle.segments.proofs.quick.is_under.Tie as tie
+use Rattle.events.specs.Under.{under}
+use Rattle.events.proofs.points.is_under.Statement.{statement}
+use Rattle.events.proofs.points.is_under.Tie as tie
 
 returns : tie.Need-returns
 unfolding under
