@@ -53,8 +53,13 @@ fn whole(name: &str, sheet: &Sheet) -> bool {
     let old = || before::overlay(&text, &mut out.borrow_mut());
     let new = || now::overlay(&text, &mut out.borrow_mut());
     let times = quickest([at_once(|| _ = old()), at_once(|| _ = new())]);
-    let map = |length: u64| out.borrow()[..length as usize].to_vec();
-    row(name, sheet.len(), "bytes", times, map(old()) == map(new()))
+    // What the call before left in the bytes is no answer.
+    let map = |entry: &dyn Fn() -> u64| {
+        out.borrow_mut().fill(0);
+        let length = entry() as usize;
+        out.borrow()[..length].to_vec()
+    };
+    row(name, sheet.len(), "bytes", times, map(&old) == map(&new))
 }
 
 /// Over arrays that are made ready before the clock starts.
