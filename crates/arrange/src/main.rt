@@ -1,23 +1,49 @@
 // Reads a sheet from standard input and prints it in its own order, or why it is refused.
+#![tactic(auto)]
+
+ghost use Rattle.std.specs.Prelude.{◌≤◌, length, IfOk};
+
 use arranging::{Outcome, arrange};
 use printing::print_refusal;
+use std::io::{self, Read};
 
-// Writes the first n bytes.
-fn write(out: &[u8], n: usize) {
-    if n <= out.len() {
-        io::write_all(libc::STDOUT_FILENO, &out[..n]);
+const ROOM: usize = 65536;
+
+// Reads until the buffer is full or the input ends, and answers how many bytes of it were read.
+fn read_full<R: Read>(reader: &mut R, buffer: &mut [u8]) -> io::Result<usize>
+    ensures { IfOk result (λ n. n ≤ length buffer.new) }
+{
+    let mut done = 0;
+    for _ in 0..u64::MAX {
+        if done == buffer.len() {
+            break;
+        }
+        let n = reader.read(&mut buffer[done..])?;
+        if n == 0 {
+            break;
+        }
+        done += n;
     }
+    Ok(done)
 }
 
-fn main() {
+// Writes the first n bytes.
+fn write(rt: &impl Print, out: &[u8], n: usize) -> io::Result<()> {
+    if n <= out.len() {
+        return rt.write_all(&out[..n]);
+    }
+    Ok(())
+}
+
+fn main(rt: HostRuntime) -> io::Result<()> {
     // No sheet has more than 20,268 bytes (`sheet-short`): of longer input the first bytes tell why it is none.
-    let mut sheet = io::large_buffer();
-    let n = io::read_full(libc::STDIN_FILENO, &mut sheet);
+    let mut sheet = [0u8; ROOM];
+    let n = read_full(&mut rt.reader(), &mut sheet)?;
     match arrange(&mut sheet[..n]) {
-        Outcome::Done => write(&sheet, n),
+        Outcome::Done => write(&rt, &sheet, n),
         Outcome::Refused(refusal) => {
             let told = print_refusal(refusal, &mut sheet);
-            write(&sheet, told);
+            write(&rt, &sheet, told)
         }
     }
 }

@@ -3,7 +3,7 @@ use crate::words::{MISSING, passed};
 use class::Operation;
 use events::{EdgeType, ResultTransition};
 
-#[derive(Drop)]
+#[derive(Clone, Copy)]
 pub struct ReadOperation {
     pub operation: Operation,
     pub after: usize,
@@ -27,7 +27,7 @@ pub fn operation(line: &[u8], from: usize) -> ReadOperation {
     ReadOperation { operation, after }
 }
 
-#[derive(Drop)]
+#[derive(Clone, Copy)]
 pub struct ReadEdgeType {
     pub edge_type: EdgeType,
     pub after: usize,
@@ -51,7 +51,7 @@ pub fn edge_type(line: &[u8], from: usize) -> ReadEdgeType {
     ReadEdgeType { edge_type, after }
 }
 
-#[derive(Drop)]
+#[derive(Clone, Copy)]
 pub struct ReadTransition {
     pub transition: ResultTransition,
     pub after: usize,

@@ -1,16 +1,17 @@
 // Input cut into lines, and output gathered until it is worth writing.
 use crate::{answers, call};
+use std::io;
 
 // Room for the longest answer.
 const ROOM: usize = 4096;
 
-#[derive(Drop)]
+#[derive(Clone, Copy)]
 pub struct Gathered {
     // bytes of a line that has not ended
     pub length: usize,
     // bytes of answers that are not written
     pub waiting: usize,
-    // false once the input has ended or the output takes no more
+    // false once the input has ended
     pub more: bool,
 }
 
@@ -31,17 +32,17 @@ pub fn stopped(g: Gathered) -> Gathered {
 }
 
 // Writes what waits.
-fn written(out: &[u8], g: Gathered) -> Gathered {
+fn written(rt: &impl Print, out: &[u8], g: Gathered) -> io::Result<Gathered> {
     let n = g.waiting;
     if n <= out.len() {
-        let is_written = io::write_all(libc::STDOUT_FILENO, &out[..n]);
-        return Gathered {
+        rt.write_all(&out[..n])?;
+        return Ok(Gathered {
             length: g.length,
             waiting: 0,
-            more: is_written,
-        };
+            more: g.more,
+        });
     }
-    stopped(g)
+    Ok(stopped(g))
 }
 
 // The answer to a line; one that fills its buffer may be longer, and is no call.
@@ -53,7 +54,7 @@ fn answered(line: &[u8], length: usize, out: &mut [u8], at: usize) -> usize {
 }
 
 // A line has ended.
-fn ended(line: &[u8], out: &mut [u8], g: Gathered) -> Gathered {
+fn ended(rt: &impl Print, line: &[u8], out: &mut [u8], g: Gathered) -> io::Result<Gathered> {
     let at = answered(line, g.length, out, g.waiting);
     let at = answers::word(out, at, b"\n");
     let next = Gathered {
@@ -62,39 +63,50 @@ fn ended(line: &[u8], out: &mut [u8], g: Gathered) -> Gathered {
         more: g.more,
     };
     if text::words::after(at, ROOM, out.len()) < out.len() {
-        return next;
+        return Ok(next);
     }
-    written(out, next)
+    written(rt, out, next)
 }
 
-fn take_byte(b: u8, line: &mut [u8], out: &mut [u8], g: Gathered) -> Gathered {
+fn take_byte(
+    rt: &impl Print,
+    b: u8,
+    line: &mut [u8],
+    out: &mut [u8],
+    g: Gathered,
+) -> io::Result<Gathered> {
     if b == b'\n' {
-        return ended(line, out, g);
+        return ended(rt, line, out, g);
     }
     text::words::put_byte(line, 0, g.length, b);
-    Gathered {
+    Ok(Gathered {
         length: text::words::after(g.length, 1, line.len()),
         waiting: g.waiting,
         more: g.more,
-    }
+    })
 }
 
-pub fn take(piece: &[u8], line: &mut [u8], out: &mut [u8], g: Gathered) -> Gathered {
+pub fn take(
+    rt: &impl Print,
+    piece: &[u8],
+    line: &mut [u8],
+    out: &mut [u8],
+    g: Gathered,
+) -> io::Result<Gathered> {
     let mut now = g;
-    let mut i = 0;
-    while i < piece.len() {
-        now = take_byte(piece[i], line, out, now);
-        i += 1;
+    for b in piece {
+        now = take_byte(rt, *b, line, out, now)?;
     }
-    now
+    Ok(now)
 }
 
 // The input has ended: a last line may lack its line feed.
-pub fn end(line: &[u8], out: &mut [u8], g: Gathered) {
-    if g.length > 0 {
-        let last = ended(line, out, g);
-        written(out, last);
+pub fn end(rt: &impl Print, line: &[u8], out: &mut [u8], g: Gathered) -> io::Result<()> {
+    let last = if g.length > 0 {
+        ended(rt, line, out, g)?
     } else {
-        written(out, g);
-    }
+        g
+    };
+    written(rt, out, last)?;
+    Ok(())
 }

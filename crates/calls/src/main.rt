@@ -1,4 +1,6 @@
 // Answers calls, one a line from standard input to its end, each by one line on standard output.
+#![tactic(auto)]
+
 mod answers;
 mod before;
 mod call;
@@ -16,34 +18,53 @@ mod segcmp;
 mod words;
 
 use lines::Gathered;
+use std::io::{self, Read};
+
+const BUFFER: usize = 65536;
 
 // No call is longer.
 const LINE: usize = 512;
 
-// Reads once and answers the lines that end there.
-fn turn(input: &mut [u8], line: &mut [u8], out: &mut [u8], g: Gathered) -> Gathered {
-    let got = libc::read(libc::STDIN_FILENO, input);
-    if got <= 0 {
-        return lines::stopped(g);
+// Reads once and answers the lines that end there; what was answered before a read that fails is written too.
+fn turn<R: Read>(
+    rt: &impl Print,
+    reader: &mut R,
+    input: &mut [u8],
+    line: &mut [u8],
+    out: &mut [u8],
+    g: Gathered,
+) -> io::Result<Gathered> {
+    match reader.read(input) {
+        Ok(0) => Ok(lines::stopped(g)),
+        Ok(n) => lines::take(rt, &input[..n], line, out, g),
+        Err(e) => {
+            lines::end(rt, line, out, g)?;
+            Err(e)
+        }
     }
-    let n = io::count(got, input);
-    lines::take(&input[..n], line, out, g)
 }
 
-// A proved loop has to end, and nothing says that the input does: the turns count down from a number that no run uses up.
-fn run(input: &mut [u8], line: &mut [u8], out: &mut [u8]) {
+// A proved loop has to end, and nothing says that the input does: no run uses up so many turns.
+fn run<R: Read>(
+    rt: &impl Print,
+    reader: &mut R,
+    input: &mut [u8],
+    line: &mut [u8],
+    out: &mut [u8],
+) -> io::Result<()> {
     let mut g = lines::none();
-    let mut turns = u64::MAX;
-    while turns > 0 && g.more {
-        g = turn(input, line, out, g);
-        turns -= 1;
+    for _ in 0..u64::MAX {
+        if !g.more {
+            break;
+        }
+        g = turn(rt, reader, input, line, out, g)?;
     }
-    lines::end(line, out, g);
+    lines::end(rt, line, out, g)
 }
 
-fn main() {
-    let mut input = io::large_buffer();
+fn main(rt: HostRuntime) -> io::Result<()> {
+    let mut input = [0u8; BUFFER];
     let mut line = [0u8; LINE];
-    let mut out = io::large_buffer();
-    run(&mut input, &mut line, &mut out);
+    let mut out = [0u8; BUFFER];
+    run(&rt, &mut rt.reader(), &mut input, &mut line, &mut out)
 }

@@ -29,7 +29,7 @@ pub fn computed(
 }
 
 // An edge of the call, from one end to the other.
-#[derive(Drop)]
+#[derive(Clone, Copy)]
 pub struct Edge {
     pub from: Point,
     pub to: Point,

@@ -59,7 +59,7 @@ fn is_digit(b: u8) -> bool {
 }
 
 // A ring number and the place after it.
-#[derive(Drop)]
+#[derive(Clone, Copy)]
 pub struct ReadRing {
     pub number: u32,
     pub after: usize,

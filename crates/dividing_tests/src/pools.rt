@@ -57,14 +57,14 @@ pub const X: usize = 12;
 pub const Y: usize = 13;
 
 // One number of one record, changed: the record, the field, and the mark or the bits of the coordinate.
-#[derive(Drop)]
+#[derive(Clone, Copy)]
 pub struct At(pub usize, pub usize, pub u64);
 
 // No record has it.
 pub const NOWHERE: At = At(PLACES, X, 0);
 
 // From left end to right end: the bits of x y x y.
-#[derive(Drop)]
+#[derive(Clone, Copy)]
 pub struct Segment(pub u64, pub u64, pub u64, pub u64);
 
 fn set_mark(marks: &mut [[u32; 12]], record: usize, field: usize, value: u32) {

@@ -3,58 +3,45 @@ use crate::pools::PLACES;
 use division::Division;
 use neighbours::{Met, Neighbours};
 use refusals::Refusal;
+use std::io;
 
-pub fn say(text: &[u8]) {
-    io::write_all(libc::STDOUT_FILENO, text);
+pub fn say(rt: &impl Print, text: &str) -> io::Result<()> {
+    rt.print(text)
 }
 
-fn say_number(n: u64) {
-    io::print_decimal(libc::STDOUT_FILENO, n);
+fn say_bits(rt: &impl Print, x: u64) -> io::Result<()> {
+    print!(rt; " {x:016x}")
 }
 
-fn say_bits(x: u64) {
-    say(b" ");
-    io::print_hex(libc::STDOUT_FILENO, x, 16);
-}
-
-fn say_if(test: bool, text: &[u8]) {
+fn say_if(rt: &impl Print, test: bool, text: &str) -> io::Result<()> {
     if test {
-        say(text);
+        return say(rt, text);
     }
+    Ok(())
 }
 
-fn refused(refusal: Refusal) {
-    say(b"refused ");
-    say_number(refusal.number);
-    say(b" at ");
-    say_number(refusal.place);
+fn refused(rt: &impl Print, refusal: Refusal) -> io::Result<()> {
+    print!(rt; "refused {} at {}", refusal.number, refusal.place)
 }
 
-pub fn division(answer: Division) {
+pub fn division(rt: &impl Print, answer: Division) -> io::Result<()> {
     match answer {
-        Division::Refused(refusal) => refused(refusal),
+        Division::Refused(refusal) => refused(rt, refusal),
         Division::Done(d) => {
-            say(b"right ");
-            say_number(d.right as u64);
-            say(b", left ");
-            say_number(d.left as u64);
-            say_if(d.moved, b", moved");
-            say_if(d.swapped, b", swapped");
+            print!(rt; "right {}, left {}", d.right, d.left)?;
+            say_if(rt, d.moved, ", moved")?;
+            say_if(rt, d.swapped, ", swapped")
         }
     }
 }
 
-pub fn neighbours(answer: Neighbours) {
+pub fn neighbours(rt: &impl Print, answer: Neighbours) -> io::Result<()> {
     let met = answer.met;
     match met {
-        Met::Refused(refusal) => refused(refusal),
-        Met::Code(code) => {
-            say(b"code ");
-            say_number(code as u64);
-        }
+        Met::Refused(refusal) => refused(rt, refusal)?,
+        Met::Code(code) => print!(rt; "code {code}")?,
     }
-    say(b", in use ");
-    say_number(answer.used as u64);
+    print!(rt; ", in use {}", answer.used)
 }
 
 fn is_same_point(p: [u64; 2], q: [u64; 2]) -> bool {
@@ -68,44 +55,50 @@ fn is_same_row(m: [u32; 12], n: [u32; 12]) -> bool {
     first & second & third
 }
 
-fn say_marks(m: [u32; 12]) {
-    for k in 0..12 {
-        say(b" ");
-        say_number(m[k] as u64);
+fn say_marks(rt: &impl Print, m: [u32; 12]) -> io::Result<()> {
+    for mark in m {
+        print!(rt; " {mark}")?;
     }
+    Ok(())
 }
 
 // A record: its number, the bits of its point, and its twelve marks.
-fn say_record(i: usize, p: [u64; 2], m: [u32; 12]) {
-    say(b"\n  ");
-    say_number(i as u64);
-    say(b":");
-    say_bits(p[0]);
-    say_bits(p[1]);
-    say_marks(m);
+fn say_record(rt: &impl Print, i: usize, p: [u64; 2], m: [u32; 12]) -> io::Result<()> {
+    print!(rt; "\n  {i}:")?;
+    say_bits(rt, p[0])?;
+    say_bits(rt, p[1])?;
+    say_marks(rt, m)
 }
 
 // Whether record i is as it was kept; it is told where it is not.
-fn is_kept(i: usize, p: [u64; 2], m: [u32; 12], kept_p: [u64; 2], kept_m: [u32; 12]) -> bool {
+fn is_kept(
+    rt: &impl Print,
+    i: usize,
+    p: [u64; 2],
+    m: [u32; 12],
+    kept_p: [u64; 2],
+    kept_m: [u32; 12],
+) -> io::Result<bool> {
     let kept = is_same_point(p, kept_p) & is_same_row(m, kept_m);
     if !kept {
-        say_record(i, p, m);
+        say_record(rt, i, p, m)?;
     }
-    kept
+    Ok(kept)
 }
 
 // Every record that is not as it was kept.
 pub fn changes(
+    rt: &impl Print,
     points: &[[u64; 2]; 4097],
     marks: &[[u32; 12]; 4097],
     kept_points: &[[u64; 2]; 4097],
     kept_marks: &[[u32; 12]; 4097],
-) {
+) -> io::Result<()> {
     let mut same = true;
     for i in 0..PLACES {
-        let kept = is_kept(i, points[i], marks[i], kept_points[i], kept_marks[i]);
+        let kept = is_kept(rt, i, points[i], marks[i], kept_points[i], kept_marks[i])?;
         same = same & kept;
     }
-    say_if(same, b", as lent");
-    say(b"\n");
+    say_if(rt, same, ", as lent")?;
+    say(rt, "\n")
 }

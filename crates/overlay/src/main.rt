@@ -1,19 +1,45 @@
 // Reads a sheet from standard input and prints its contours, or why it is refused (01, 'The sheet').
-use overlay_work::answer;
+#![tactic(auto)]
 
-// Writes the first n bytes.
-fn write(out: &[u8], n: usize) {
-    if n <= out.len() {
-        io::write_all(libc::STDOUT_FILENO, &out[..n]);
+ghost use Rattle.std.specs.Prelude.{◌≤◌, length, IfOk};
+
+use overlay_work::answer;
+use std::io::{self, Read};
+
+const ROOM: usize = 65536;
+
+// Reads until the buffer is full or the input ends, and answers how many bytes of it were read.
+fn read_full<R: Read>(reader: &mut R, buffer: &mut [u8]) -> io::Result<usize>
+    ensures { IfOk result (λ n. n ≤ length buffer.new) }
+{
+    let mut done = 0;
+    for _ in 0..u64::MAX {
+        if done == buffer.len() {
+            break;
+        }
+        let n = reader.read(&mut buffer[done..])?;
+        if n == 0 {
+            break;
+        }
+        done += n;
     }
+    Ok(done)
 }
 
-fn main() {
+// Writes the first n bytes.
+fn write(rt: &impl Print, out: &[u8], n: usize) -> io::Result<()> {
+    if n <= out.len() {
+        return rt.write_all(&out[..n]);
+    }
+    Ok(())
+}
+
+fn main(rt: HostRuntime) -> io::Result<()> {
     // No sheet has more than 20,268 bytes (`sheet-short`): of longer input the first bytes tell why it is none.
-    let mut input = io::large_buffer();
+    let mut input = [0u8; ROOM];
     // No text has more than 60,942 bytes (`answer-short`): 1,024 corners of 34 bytes and what stands before them.
-    let mut out = io::large_buffer();
-    let n = io::read_full(libc::STDIN_FILENO, &mut input);
+    let mut out = [0u8; ROOM];
+    let n = read_full(&mut rt.reader(), &mut input)?;
     let told = answer(&input[..n], &mut out);
-    write(&out, told);
+    write(&rt, &out, told)
 }

@@ -51,7 +51,7 @@ pub const X: usize = 12;
 pub const Y: usize = 13;
 
 // One number of one record, changed: the record, the field, and the mark or the bits of the coordinate.
-#[derive(Drop)]
+#[derive(Clone, Copy)]
 pub struct At(pub usize, pub usize, pub u64);
 
 // No record has it.

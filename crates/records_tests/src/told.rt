@@ -5,58 +5,80 @@ use events::Link;
 use records::{Before, Compared, Computed};
 use refusals::Refusal;
 use segments::Ordering;
+use std::io;
 
-pub fn say(text: &[u8]) {
-    io::write_all(libc::STDOUT_FILENO, text);
+pub fn say(rt: &impl Print, text: &str) -> io::Result<()> {
+    rt.print(text)
 }
 
-fn refused(refusal: Refusal) {
-    say(b"refused ");
-    io::print_decimal(libc::STDOUT_FILENO, refusal.number);
-    say(b" at ");
-    io::print_decimal(libc::STDOUT_FILENO, refusal.place);
+fn refused(rt: &impl Print, refusal: Refusal) -> io::Result<()> {
+    print!(rt; "refused {} at {}", refusal.number, refusal.place)
 }
 
-fn before(points: &[[u64; 2]], marks: &[[u32; 12]], a: u32, b: u32) {
-    say(b" before ");
+fn before(
+    rt: &impl Print,
+    points: &[[u64; 2]],
+    marks: &[[u32; 12]],
+    a: u32,
+    b: u32,
+) -> io::Result<()> {
+    say(rt, " before ")?;
     match records::is_before(points, marks, a, b) {
-        Before::Refused(refusal) => refused(refusal),
+        Before::Refused(refusal) => refused(rt, refusal),
         Before::Told(is_before) => {
             if is_before {
-                say(b"yes");
+                say(rt, "yes")
             } else {
-                say(b"no");
+                say(rt, "no")
             }
         }
     }
 }
 
-fn segments(points: &[[u64; 2]], marks: &[[u32; 12]], a: u32, b: u32) {
-    say(b", segments ");
+fn segments(
+    rt: &impl Print,
+    points: &[[u64; 2]],
+    marks: &[[u32; 12]],
+    a: u32,
+    b: u32,
+) -> io::Result<()> {
+    say(rt, ", segments ")?;
     match records::compare_segments(points, marks, a, b, PLAIN) {
-        Compared::Refused(refusal) => refused(refusal),
+        Compared::Refused(refusal) => refused(rt, refusal),
         Compared::Told(order) => match order {
-            Ordering::Less => say(b"less"),
-            Ordering::Equal => say(b"equal"),
-            Ordering::Greater => say(b"greater"),
+            Ordering::Less => say(rt, "less"),
+            Ordering::Equal => say(rt, "equal"),
+            Ordering::Greater => say(rt, "greater"),
         },
     }
 }
 
-fn fields(points: &mut [[u64; 2]], marks: &mut [[u32; 12]], e: u32, lower: Link) {
-    say(b" fields ");
+fn fields(
+    rt: &impl Print,
+    points: &mut [[u64; 2]],
+    marks: &mut [[u32; 12]],
+    e: u32,
+    lower: Link,
+) -> io::Result<()> {
+    say(rt, " fields ")?;
     match records::compute_fields(points, marks, e, lower, Operation::Union) {
-        Computed::Refused(refusal) => refused(refusal),
-        Computed::Done => say(b"done"),
+        Computed::Refused(refusal) => refused(rt, refusal),
+        Computed::Done => say(rt, "done"),
     }
 }
 
 // All three of records a and b, or the class of a above nothing.
-pub fn entries(points: &mut [[u64; 2]], marks: &mut [[u32; 12]], a: u32, b: Link) {
+pub fn entries(
+    rt: &impl Print,
+    points: &mut [[u64; 2]],
+    marks: &mut [[u32; 12]],
+    a: u32,
+    b: Link,
+) -> io::Result<()> {
     if let Link::To(n) = b {
-        before(points, marks, a, n);
-        segments(points, marks, a, n);
-        say(b",");
+        before(rt, points, marks, a, n)?;
+        segments(rt, points, marks, a, n)?;
+        say(rt, ",")?;
     }
-    fields(points, marks, a, b);
+    fields(rt, points, marks, a, b)
 }

@@ -1,0 +1,6 @@
+-- The bytes read are bytes of the buffer.
+use Rattle.std.proofs.Common.{◌≤◌, length}
+use Rattle.overlay.proofs.read_full.Given as goal
+
+abbrev pub invariant-loop : goal.invariant-loop
+invariant-loop g l = l.done ≤ length l.buffer
