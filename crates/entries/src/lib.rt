@@ -1,5 +1,7 @@
 // What C and Rust call: numbers in, numbers out. include/bezorika.h says the same in plain words.
 // Each answers 0, or the number of a refusal; an output that a call does not name stays as lent, to the bit: corners are lent as words.
+#![tactic(auto)]
+
 ghost use Rattle.std.specs.Prelude.{◌≡◌, map};
 ghost use Rattle.std.specs.Float.{binary64};
 ghost use Rattle.std.specs.Float.Ieee.{to_bits};
@@ -32,8 +34,7 @@ fn tell_turn(turn: Sign, sign: &mut i64)
     }
 }
 
-#[unsafe(no_mangle)]
-pub extern "C" fn bezorika_orientation(
+pub fn bezorika_orientation(
     ax: f64,
     ay: f64,
     bx: f64,
@@ -105,8 +106,7 @@ fn tell_crossed(crossed: Crossed, kind: &mut u64, corners: &mut [u64; 4], place:
     }
 }
 
-#[unsafe(no_mangle)]
-pub extern "C" fn bezorika_crossing(
+pub fn bezorika_crossing(
     ax: f64,
     ay: f64,
     bx: f64,
@@ -129,8 +129,7 @@ pub extern "C" fn bezorika_crossing(
 }
 
 // The same to the last bit however the two segments are named.
-#[unsafe(no_mangle)]
-pub extern "C" fn bezorika_crossing_ordered(
+pub fn bezorika_crossing_ordered(
     ax: f64,
     ay: f64,
     bx: f64,

@@ -1,5 +1,7 @@
 // Overlay's work and arranging as C and Rust call them. include/bezorika.h says the same in plain words.
 // Each answers 0, or the number of a refusal; an output that the call does not name stays as lent.
+#![tactic(auto)]
+
 ghost use Rattle.std.specs.Prelude.{◌≡◌};
 ghost use Rattle.arranging.specs.Arrange as Arrange;
 ghost use Rattle.arranging.specs.Answer as Arranging;
@@ -29,13 +31,7 @@ fn tell(overlaid: Overlaid, length: &mut u64, place: &mut u64) -> u64
     }
 }
 
-#[unsafe(no_mangle)]
-pub extern "C" fn bezorika_overlay(
-    bytes: &[u8],
-    out: &mut [u8],
-    length: &mut u64,
-    place: &mut u64,
-) -> u64
+pub fn bezorika_overlay(bytes: &[u8], out: &mut [u8], length: &mut u64, place: &mut u64) -> u64
     ensures value { result ≡ number_of (Spec.overlay bytes.now out.old).answer }
     ensures out_after { out.new ≡ (Spec.overlay bytes.now out.old).out }
     ensures length_after { length.new ≡ Told.length (Spec.overlay bytes.now out.old).answer length.old }
@@ -46,8 +42,7 @@ pub extern "C" fn bezorika_overlay(
 }
 
 // The same of the sheet put in order.
-#[unsafe(no_mangle)]
-pub extern "C" fn bezorika_overlay_arranged(
+pub fn bezorika_overlay_arranged(
     bytes: &[u8],
     out: &mut [u8],
     length: &mut u64,
@@ -63,8 +58,7 @@ pub extern "C" fn bezorika_overlay_arranged(
 }
 
 // A sheet put in order, in its own bytes.
-#[unsafe(no_mangle)]
-pub extern "C" fn bezorika_arrange(bytes: &mut [u8], place: &mut u64) -> u64
+pub fn bezorika_arrange(bytes: &mut [u8], place: &mut u64) -> u64
     ensures value { result ≡ Arranging.number_of (Arrange.arrange bytes.old).answer }
     ensures bytes_after { bytes.new ≡ (Arrange.arrange bytes.old).bytes }
     ensures place_after { place.new ≡ Told.arranged_place (Arrange.arrange bytes.old).answer place.old }

@@ -1,5 +1,7 @@
 // What C and Rust call of the stages one by one: loading, the sweep, connection. include/bezorika.h says the same in plain words.
 // Each answers 0, or the number of a refusal; an output that a call does not name stays as lent.
+#![tactic(auto)]
+
 ghost use Rattle.std.specs.Prelude.{◌≡◌};
 ghost use Rattle.events.specs.Pool.{pool};
 ghost use Rattle.loading.specs.OnPool as Loading;
@@ -18,8 +20,7 @@ use loading::{Loaded, load};
 use refusals::{COORDINATE, HALF_EDGE, LINK, ROOM, SIZE};
 use sweep::subdivide;
 
-#[unsafe(no_mangle)]
-pub extern "C" fn bezorika_load(
+pub fn bezorika_load(
     ends: &[[u64; 4]],
     labels: &[[u32; 2]],
     points: &mut [[u64; 2]],
@@ -91,8 +92,7 @@ fn tell_end(outcome: sweep::Outcome, place: &mut u64) -> u64
     }
 }
 
-#[unsafe(no_mangle)]
-pub extern "C" fn bezorika_subdivide(
+pub fn bezorika_subdivide(
     points: &mut [[u64; 2]],
     marks: &mut [[u32; 12]],
     loaded: u32,
@@ -129,8 +129,7 @@ fn tell_connection(outcome: connection::Outcome, place: &mut u64) -> u64
     }
 }
 
-#[unsafe(no_mangle)]
-pub extern "C" fn bezorika_connect(
+pub fn bezorika_connect(
     points: &[[u64; 2]],
     marks: &mut [[u32; 12]],
     list: &[u32],
