@@ -9,7 +9,7 @@ use checks::sizes::places;
 use events::pool::read_event;
 use results::in_result;
 
-#[derive(Drop)]
+#[derive(Clone, Copy)]
 pub enum Flaw {
     Misplaced,
     HalfListed,

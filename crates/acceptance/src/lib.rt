@@ -1,4 +1,6 @@
 // Which lists connection takes: refusals 1, 2, 4, 8 and 5, each over all records looked at before the next.
+#![tactic(auto)]
+
 ghost use Rattle.std.specs.Prelude.{◌≡◌, ◌≤◌, length};
 ghost use Rattle.events.specs.Pool.{pool};
 ghost use Rattle.checks.specs.Checks.{max_events, few_events};

@@ -6,7 +6,6 @@ use Rattle.refusals.specs.declared.Refusal.{Refusal}
 use Rattle.sheet.specs.declared.edges.Edge.{Edge}
 use Rattle.sheet.specs.Sheet.{Sheet, written}
 use Rattle.sheet.specs.Reading.{Reading, Accepted, read_sheet}
-use Rattle.sheet.specs.Reading as Reading
 use Rattle.arranging.specs.declared.Outcome.{Outcome}
 use Rattle.arranging.specs.declared.Outcome.TheVariants.{Done, Refused}
 use Rattle.arranging.specs.Arranged.{plain, in_order, arranged}

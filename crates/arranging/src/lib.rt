@@ -1,4 +1,6 @@
 // A sheet put in order (`arrange`): every way of saving one drawing becomes the same bytes.
+#![tactic(auto)]
+
 mod layers;
 mod rows;
 mod words;
@@ -22,7 +24,7 @@ use sheet::{Told, read_rows};
 // `sheet::MAX_EDGES`, as an array is declared.
 const EDGES: usize = 256;
 
-#[derive(Drop)]
+#[derive(Clone, Copy)]
 pub enum Outcome {
     Done,
     Refused(Refusal),

@@ -1,4 +1,6 @@
 // 01's refusals 1, 2 and 4 for the records of a pool, run once at each public entry.
+#![tactic(auto)]
+
 ghost use Rattle.std.specs.Prelude.{◌≡◌, [], ◌∷◌};
 ghost use Rattle.events.specs.Binary64.{at_binary64};
 ghost use Rattle.events.specs.Pool.{pool, row_at};
@@ -14,14 +16,14 @@ pub mod loaded;
 pub mod records;
 pub mod sizes;
 
-#[derive(Drop)]
+#[derive(Clone, Copy)]
 pub enum Check {
     Passed,
     Refused(Refusal),
 }
 
 // What can be wrong with one record: refusal 2, refusal 4.
-#[derive(Drop)]
+#[derive(Clone, Copy)]
 pub enum Fault {
     Unfit,
     Mistaken,

@@ -1,4 +1,6 @@
 // Edge class (`compute_fields.rs`): flags and below link from the lower neighbour, then what the operation makes of the edge.
+#![tactic(auto)]
+
 pub mod on_pool;
 
 ghost use Rattle.std.specs.Prelude.{◌≡◌};
@@ -7,7 +9,7 @@ ghost use Rattle.class.specs.Class.{shown_neighbour, shown_lower, written, is_in
 
 use events::{EdgeType, Event, Link, ResultTransition};
 
-#[derive(Drop)]
+#[derive(Clone, Copy)]
 pub enum Operation {
     Intersection,
     Difference,
@@ -16,14 +18,14 @@ pub enum Operation {
 }
 
 // The left record of the edge next below, with its number.
-#[derive(Drop)]
+#[derive(Clone, Copy)]
 pub struct Neighbour {
     pub number: u32,
     pub event: Event,
     pub vertical: bool,
 }
 
-#[derive(Drop)]
+#[derive(Clone, Copy)]
 pub enum Lower {
     None,
     Edge(Neighbour),

@@ -1,4 +1,6 @@
 // Connection (`connect_edges.rs`) as a call: the checks, the table, the contours, their holes, and contour numbers in the pool.
+#![tactic(auto)]
+
 ghost use Rattle.std.specs.Prelude.{◌≡◌, []};
 ghost use Rattle.events.specs.Pool.{pool};
 ghost use Rattle.connection.specs.Connection.{lent, told, left, connect_edges};
@@ -11,14 +13,14 @@ use work::connect_accepted;
 mod answer;
 mod work;
 
-#[derive(Drop)]
+#[derive(Clone, Copy)]
 pub enum Outcome {
     Done,
     Refused(Refusal),
 }
 
 // What was connected, to the end or until it was refused.
-#[derive(Drop)]
+#[derive(Clone, Copy)]
 pub struct Connected {
     pub contours: u32,
     // The corners of all contours, and their holes.

@@ -22,7 +22,6 @@ use Rattle.checks.specs.declared.Check.{Check}
 use Rattle.checks.specs.declared.Check.TheVariants.{Passed, Refused}
 use Rattle.contours.specs.Result.{keep, results, ordered}
 use Rattle.contours.specs.Table.{Row, place, table, row_at}
-use Rattle.contours.specs.Walk.{corners}
 use Rattle.contours.specs.Contours.{Contour, Answer, done, halted, trace}
 use Rattle.contours.specs.Outline.{Outline, closes, outline, outlines_from, outlines, open_count}
 use Rattle.contours.specs.Accept.{Room, accept}

@@ -16,7 +16,7 @@ use Rattle.order.proofs.Laws.{OrderLaws}
 use Rattle.checks.specs.declared.Check.{Check}
 use Rattle.checks.specs.declared.Check.TheVariants.{Passed, Refused}
 use Rattle.contours.specs.Result.{results, result_edges, ordered}
-use Rattle.contours.specs.Table.{Row, row_at}
+use Rattle.contours.specs.Table.{Row}
 use Rattle.contours.specs.Contours.{Contour, Answer, done, halted}
 use Rattle.contours.specs.Outline.{Outline, outline, outlines_from, outlines, corner_count, hole_count}
 use Rattle.contours.specs.Accept.{Room, accept}
@@ -25,8 +25,8 @@ use Rattle.contours.proofs.Lists.{All, length-perm}
 use Rattle.contours.proofs.Marks.{open_from, open-le}
 use Rattle.contours.proofs.Turns.{Ends}
 use Rattle.contours.proofs.Amount.{Amount, amount, outline-count, corner-count, hole-count}
-use Rattle.contours.proofs.Nesting.{Numbers, numbered, outlines-in}
-use Rattle.contours.proofs.Corners.{Trail, edge_at, corners-length, some-edge, chained}
+use Rattle.contours.proofs.Nesting.{Numbers, numbered, outlines-in, Numbered}
+use Rattle.contours.proofs.Corners.{Trail, edge_at, corners-length, some-edge, chained, Chained}
 use Rattle.contours.proofs.Accepted.{Accepted, Fits, accepted}
 use Rattle.contours.proofs.Good.{size, sorted, good, by_value, sides, lefts-open, rec-in, rec-other, point-is}
 
@@ -120,7 +120,7 @@ module _ {P S : Type 0} (C : Coordinates P) (K : Store P S) (L : OrderLaws C)
       × Amount (same C) count at (good C recs (K.size s) first-point list sh.ok) (by_value C recs (K.size s) first-point list sh.ok L) (sides C recs (K.size s) first-point list sh.ok) i ms cs
   unfolding traced
   much =
-      held count _ sh.answer
+      held count (Amount (same C) count at (good C recs (K.size s) first-point list sh.ok) (by_value C recs (K.size s) first-point list sh.ok L) (sides C recs (K.size s) first-point list sh.ok)) sh.answer
       (rw sh.trace at (amount (same C) count at (good C recs (K.size s) first-point list sh.ok) (by_value C recs (K.size s) first-point list sh.ok L) (sides C recs (K.size s) first-point list sh.ok)))
 
   contours-few : length cs ≤ length (result_edges recs list)
@@ -144,14 +144,14 @@ module _ {P S : Type 0} (C : Coordinates P) (K : Store P S) (L : OrderLaws C)
   unfolding traced outlines
   numbers =
       rw (sh.shown, outline-count (same C) count at cs cs 0)
-      (outlines-in (same C) count at cs cs 0 (held count _ sh.answer (rw sh.trace at (numbered (same C) count at))).2.nested)
+      (outlines-in (same C) count at cs cs 0 (held count Numbered sh.answer (rw sh.trace at (numbered (same C) count at))).2.nested)
 
   -- ---- corners
 
   trails : All (λ k. Trail (same C) count at k.trail) cs
   unfolding traced
   trails =
-      (held count _ sh.answer
+      (held count (Chained (same C) count at (good C recs (K.size s) first-point list sh.ok) (by_value C recs (K.size s) first-point list sh.ok L)) sh.answer
       (rw sh.trace at (chained (same C) count at (good C recs (K.size s) first-point list sh.ok) (by_value C recs (K.size s) first-point list sh.ok L)))
       ).2.all
 

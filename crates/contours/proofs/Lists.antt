@@ -1,5 +1,5 @@
 -- Lists: what holds of all members and of every two, under a permutation, a filter, a renaming.
-use mathlib.Core.Path.{◌≡◌, refl, sym, ap, ◌∙◌}
+use mathlib.Core.Path.{◌≡◌, refl, sym, ap, subst, ◌∙◌}
 use mathlib.Core.Logic.{◌≢◌, ◌⊎◌, inl, inr}
 use mathlib.Core.Bool.{Bool, true, false, cond, true≢false}
 use mathlib.Core.List.Memᴰ
@@ -27,9 +27,12 @@ module _ {A : Type 0} (D : A → Type 0) where
   all_of [] h = tt
   all_of (a ∷ l) h = (h a (Memᴰ.head refl), all_of l (λ b m. h b (Memᴰ.tail m)))
 
+  at-mem : (a : A) (l : List A) → All D l → Memᴰ a l → D a
+  at-mem a l h (Memᴰ.head e) = rw e h.0
+  at-mem a l h (Memᴰ.tail {xs = xs} m) = at-mem a xs h.1 m
+
   pub all-mem : (l : List A) (a : A) → All D l → Memᴰ a l → D a
-  all-mem l a h (Memᴰ.head e) = rw e h.0
-  all-mem l a h (Memᴰ.tail {xs = xs} m) = all-mem xs a h.1 m
+  all-mem l a = at-mem a l
 
   pub all-perm : {l m : List A} → Permᴰ l m → All D l → All D m
   all-perm Permᴰ.nil h = tt
@@ -41,7 +44,8 @@ module _ {A : Type 0} (R : A → A → Type 0) where
   pub pairs-perm : ((a b : A) → R a b → R b a) → {l m : List A} → Permᴰ l m → Pairs R l → Pairs R m
   pairs-perm s Permᴰ.nil h = tt
   pairs-perm s (Permᴰ.cons {b = b} e p) h = (all-perm (R b) p (rw e at h.0), pairs-perm s p h.1)
-  pairs-perm s (Permᴰ.swap {a = a} {b = b} e f) h = rw (← e, ← f) ((s a b h.0.0, h.1.0), (h.0.1, h.1.1))
+  pairs-perm s (Permᴰ.swap {a = a} {b = b} {b' = b'} {l = l} e f) h =
+      subst (λ (x : A). (R x b' × All (R x) l) × (All (R b') l × Pairs R l)) f (subst (λ (y : A). (R b y × All (R b) l) × (All (R y) l × Pairs R l)) e ((s a b h.0.0, h.1.0), (h.0.1, h.1.1)))
   pairs-perm s (Permᴰ.trans p q) h = pairs-perm s q (pairs-perm s p h)
 
   -- of different members
@@ -78,9 +82,12 @@ mem-map {A} f (x ∷ l) b m = go (Memᴰ.cases_cons m) (mem-map f l b)
     go (inl e) r = (x, Memᴰ.head refl, e)
     go (inr k) r = let h : (a : A) × Memᴰ a l × (b ≡ f a) = r k in (h.0, Memᴰ.tail h.1, h.2)
 
+mem-image : {A B : Type 0} (f : A → B) (a : A) (l : List A) → Memᴰ a l → Memᴰ (f a) (map f l)
+mem-image f a l (Memᴰ.head e) = Memᴰ.head (ap f e)
+mem-image f a l (Memᴰ.tail {xs = xs} m) = Memᴰ.tail (mem-image f a xs m)
+
 pub map-mem : {A B : Type 0} (f : A → B) (l : List A) (a : A) → Memᴰ a l → Memᴰ (f a) (map f l)
-map-mem f l a (Memᴰ.head e) = Memᴰ.head (ap f e)
-map-mem f l a (Memᴰ.tail {xs = xs} m) = Memᴰ.tail (map-mem f xs a m)
+map-mem f l a = mem-image f a l
 
 pub mem-get_d : {A : Type 0} (s : List A) (i : ℕ) (d : A) → i < length s → Memᴰ (get_or s i d) s
 mem-get_d [] i d l = absurd (not-suc-le-zero l)

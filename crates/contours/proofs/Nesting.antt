@@ -83,7 +83,7 @@ module _ {P : Type 0} (same : P → P → Bool) (n : ℕ) (row : ℕ → Row P) 
   marks-in : (c : ℕ) (ms t : List ℕ) (b : ℕ) → suc c ≤ b → ((j : ℕ) → get_or ms j 0 ≤ b) → (j : ℕ) → get_or (marks same n row c ms t) j 0 ≤ b
   unfolding marks mark
   marks-in c ms [] b h l j = l j
-  marks-in c ms (i ∷ t) b h l j = marks-in c _ t b h (λ j. set-in (set ms i (suc c)) (row i).other (suc c) j b h (set-in ms i (suc c) j b h (l j))) j
+  marks-in c ms (i ∷ t) b h l j = marks-in c (set (set ms i (suc c)) (row i).other (suc c)) t b h (λ j. set-in (set ms i (suc c)) (row i).other (suc c) j b h (set-in ms i (suc c) j b h (l j))) j
 
   numbered-make : (i : ℕ) (ms : List ℕ) (cs : List Contour) (p : Option ℕ) (d : ℕ) → i < n → Numbered i ms cs → get_or ms i 1 ≡ 0 → context ms cs (row i).below ≡ placed p d
       → Numbered (suc i) (marked same n row i cs ms) (more same n row i cs ms p d)

@@ -15,15 +15,21 @@ use Rattle.contours.specs.Connect.{with_contour}
 use Rattle.contours.specs.Renaming.{Renumbered, Relisted}
 
 module _ {P : Type 0} (row : ℕ → Event P) (n : ℕ) where
-  pub own-named : (l : List ℕ) (r : ℕ) → Memᴰ r l → Memᴰ r (named row n l)
+  own-in : (r : ℕ) (l : List ℕ) → Memᴰ r l → Memᴰ r (named row n l)
   unfolding named
-  own-named l r (Memᴰ.head e) = Memᴰ.head e
-  own-named l r (Memᴰ.tail {xs = xs} m) = Memᴰ.tail (Memᴰ.tail (own-named xs r m))
+  own-in r l (Memᴰ.head e) = Memᴰ.head e
+  own-in r l (Memᴰ.tail {xs = xs} m) = Memᴰ.tail (Memᴰ.tail (own-in r xs m))
+
+  pub own-named : (l : List ℕ) (r : ℕ) → Memᴰ r l → Memᴰ r (named row n l)
+  own-named l r = own-in r l
+
+  mate-in : (r : ℕ) (l : List ℕ) → Memᴰ r l → Memᴰ (mate row n r) (named row n l)
+  unfolding named
+  mate-in r l (Memᴰ.head e) = Memᴰ.tail (Memᴰ.head (ap (mate row n) e))
+  mate-in r l (Memᴰ.tail {xs = xs} m) = Memᴰ.tail (Memᴰ.tail (mate-in r xs m))
 
   mate-named : (l : List ℕ) (r : ℕ) → Memᴰ r l → Memᴰ (mate row n r) (named row n l)
-  unfolding named
-  mate-named l r (Memᴰ.head e) = Memᴰ.tail (Memᴰ.head (ap (mate row n) e))
-  mate-named l r (Memᴰ.tail {xs = xs} m) = Memᴰ.tail (Memᴰ.tail (mate-named xs r m))
+  mate-named l r = mate-in r l
 
   -- the partner of a listed record of the pool
   pub partner-named : (l : List ℕ) (r : ℕ) → r < n → Memᴰ r l → Memᴰ (row r).partner (named row n l)

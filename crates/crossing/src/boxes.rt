@@ -5,7 +5,7 @@ ghost use Rattle.crossing.specs.Boxes.{lesser, greater, box_from, shared_box, wi
 use crate::LineIntersection;
 use numbers::{BoundingBox, Coordinate, max, min};
 
-#[derive(Drop)]
+#[derive(Clone, Copy)]
 pub enum Boxes {
     Apart,
     Share(BoundingBox),

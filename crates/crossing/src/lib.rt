@@ -1,4 +1,6 @@
 // Crossing of two segments (`segment_intersection.rs`): named as the mode has them, then the boxes, the two lines, the clamp.
+#![tactic(auto)]
+
 ghost use Rattle.std.specs.Prelude.{◌≡◌};
 ghost use Rattle.crossing.specs.Crossing.{intersection_of, intersection_in, crossing_in};
 
@@ -16,7 +18,7 @@ pub const PLAIN: u32 = 0;
 // Minus zero turned into zero, then ends and segments in order: the answer does not depend on how they are named. Every number but PLAIN means this.
 pub const ORDERED: u32 = 1;
 
-#[derive(Drop)]
+#[derive(Clone, Copy)]
 pub enum LineIntersection {
     None,
     Point(Coordinate),
@@ -60,7 +62,7 @@ pub fn intersection(
     intersection_of(first.from, first.to, second.from, second.to)
 }
 
-#[derive(Drop)]
+#[derive(Clone, Copy)]
 pub enum Crossed {
     Refused(Refusal),
     Found(LineIntersection),

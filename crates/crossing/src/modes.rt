@@ -6,13 +6,13 @@ use crate::PLAIN;
 use numbers::Coordinate;
 use numbers::points::{is_ahead, unsigned_point};
 
-#[derive(Drop)]
+#[derive(Clone, Copy)]
 pub struct Segment {
     pub from: Coordinate,
     pub to: Coordinate,
 }
 
-#[derive(Drop)]
+#[derive(Clone, Copy)]
 pub struct Pair {
     pub a: Segment,
     pub b: Segment,

@@ -13,7 +13,7 @@ use Rattle.events.specs.Pool.{Pool, stored}
 use Rattle.events.specs.Lent.{among, AsLentBut}
 use Rattle.events.proofs.Stored.{pool-stored}
 use Rattle.events.proofs.Looks.{look_in}
-use Rattle.events.proofs.Lent.{twelve, Agree, left, subject, ring, partner, there, below, edge_type, transition, in_out, other_in_out, numbered, contour, lent-here, lent-away, lent-away-enter, lent-then, then-lent}
+use Rattle.events.proofs.Lent.{twelve, Agree, left, subject, ring, there, below, edge_type, transition, in_out, other_in_out, numbered, contour, lent-here, lent-away, lent-away-enter, lent-then, then-lent}
 use Rattle.division.specs.declared.Division.TheVariants.{Done}
 use Rattle.division.specs.declared.Divided.{Divided}
 use Rattle.division.specs.Division.{moved, keeps, new_end, linked, parted, After, done, divide}

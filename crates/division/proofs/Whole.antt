@@ -2,7 +2,7 @@
 -- before, partners are mutual again, and the four ends lie on their proper sides. Each part is a law of its own; here they meet at one division.
 use mathlib.Core.Path.{◌≡◌, refl, sym, ap, ◌∙◌, subst}
 use mathlib.Core.Logic.{◌≢◌}
-use mathlib.Core.Bool.{Bool, true, false, not, not-not, true≢false}
+use mathlib.Core.Bool.{Bool, false, not, not-not, true≢false}
 use Prim.Native.Nat.{ℕ, ◌+◌}
 use native.Mathlib.Omega.{arith}
 use Rattle.events.specs.Coordinates.{Coordinates}

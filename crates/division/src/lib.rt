@@ -1,6 +1,8 @@
 // Division (`divide_segment.rs`): the segment of a left record is cut in two.
 //
 //     (i)--------(used)(used + 1)--------(partner)
+#![tactic(auto)]
+
 ghost use Rattle.std.specs.Prelude.{◌≡◌, ◌+◌, ◌<◌};
 ghost use Rattle.events.specs.Binary64.{at_binary64};
 ghost use Rattle.events.specs.Event.{shown};
@@ -21,7 +23,7 @@ use refusals::{CUT, FULL, Refusal};
 const NUMBERS: usize = 0xffff_ffff;
 
 // What a division did.
-#[derive(Drop)]
+#[derive(Clone, Copy)]
 pub struct Divided {
     // The numbers of the new ends.
     pub right: u32,
@@ -32,7 +34,7 @@ pub struct Divided {
     pub swapped: bool,
 }
 
-#[derive(Drop)]
+#[derive(Clone, Copy)]
 pub enum Division {
     Done(Divided),
     Refused(Refusal),

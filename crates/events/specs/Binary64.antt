@@ -1,4 +1,4 @@
--- Points of words as a kind of coordinate: each word is read as binary64 (`lib.Ieee` calls the format `binary64`), and the crossing on them in each mode.
+-- Points of words as a kind of coordinate: each word is read as binary64 (`Rattle.std.specs.Float` calls the format `binary64`), and the crossing on them in each mode.
 -- This is the one place that says what a word means; another kind of coordinate is another such page.
 use Rattle.std.specs.Prelude.{ℕ, not, ◌&&◌, from_bits, to_bits}
 use Rattle.std.specs.Float.{binary64}

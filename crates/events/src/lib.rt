@@ -1,4 +1,6 @@
 // The event record (`sweep_event.rs`).
+#![tactic(auto)]
+
 ghost use Rattle.std.specs.Prelude.{◌≡◌};
 ghost use Rattle.events.specs.Event.{shown, fresh};
 
@@ -7,7 +9,7 @@ pub mod pool;
 
 use numbers::Point;
 
-#[derive(Drop)]
+#[derive(Clone, Copy)]
 pub enum EdgeType {
     Normal,
     NonContributing,
@@ -15,7 +17,7 @@ pub enum EdgeType {
     DifferentTransition,
 }
 
-#[derive(Drop)]
+#[derive(Clone, Copy)]
 pub enum ResultTransition {
     None,
     InOut,
@@ -23,14 +25,14 @@ pub enum ResultTransition {
 }
 
 // The number of a record or of a contour, where there is one.
-#[derive(Drop)]
+#[derive(Clone, Copy)]
 pub enum Link {
     None,
     To(u32),
 }
 
 // One end of an edge. Fields of one size stand together, so that an end is copied in whole words.
-#[derive(Drop)]
+#[derive(Clone, Copy)]
 pub struct Event {
     pub point: Point,
     pub ring: u32,

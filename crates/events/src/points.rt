@@ -16,7 +16,7 @@ const SIGN: u64 = 0x8000_0000_0000_0000;
 const INFINITY: u64 = 0x7ff0_0000_0000_0000;
 
 // What two segments have in common.
-#[derive(Drop)]
+#[derive(Clone, Copy)]
 pub enum Meeting {
     Nothing,
     At(Point),
@@ -25,7 +25,7 @@ pub enum Meeting {
 }
 
 // So many words from the first on, 0 behind the greatest: for a quick test of many points against one.
-#[derive(Drop)]
+#[derive(Clone, Copy)]
 pub struct Run {
     pub first: u64,
     pub many: u64,

@@ -1,5 +1,7 @@
 // The holes of every contour: the contours whose parent it is, in their order; those of one contour after those of another.
 // A nest is what is kept of a contour: its first corner, where its corners end, its parent + 1 or 0, its depth.
+#![tactic(auto)]
+
 ghost use Rattle.std.specs.Prelude.{◌≡◌, ◌*◌, ◌≤◌, ◌<◌, set};
 ghost use Rattle.holes.specs.Holes.{nest_in, pile, add_hole, piled, holes_at, holding, hold_one, held_from, holed_on};
 

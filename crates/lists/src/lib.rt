@@ -1,4 +1,6 @@
 // A list in a lent slice: its first n places. Where there is no such place, or no room, nothing changes.
+#![tactic(auto)]
+
 ghost use Rattle.std.specs.Prelude.{◌≡◌, ◌<◌, ◌≤◌, length};
 ghost use Rattle.lists.specs.Lists.{entered, inserted, left, removed};
 

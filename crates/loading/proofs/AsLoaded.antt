@@ -26,7 +26,6 @@ use Rattle.checks.proofs.Unstruck.{neither}
 use Rattle.checks.proofs.Passed.{passed-checked}
 use Rattle.checks.proofs.Lowest.{length-numbers, number_at}
 use Rattle.loading.specs.declared.Loaded.{Loaded}
-use Rattle.loading.specs.declared.Loaded.TheVariants as Loaded
 use Rattle.loading.specs.Loading.{Edge, end, first_end, second_end, loaded, checked_edge, checked_edges}
 use Rattle.loading.specs.OnPool.{edges_of, accept, after_checks, load}
 use Rattle.loading.proofs.Rows.{Rows, none, more, rows}

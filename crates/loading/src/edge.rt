@@ -5,7 +5,7 @@ ghost use Rattle.loading.specs.OnPool.{edge_of, edges_of, edge_at, shown_edge};
 use events::points::as_loaded;
 use numbers::Point;
 
-#[derive(Drop)]
+#[derive(Clone, Copy)]
 pub struct Edge {
     pub subject: bool,
     pub ring: u32,

@@ -1,4 +1,6 @@
 // Loading: edge i of the lent edges becomes records 2i and 2i+1 of the lent pool.
+#![tactic(auto)]
+
 ghost use Rattle.std.specs.Prelude.{◌≡◌};
 ghost use Rattle.events.specs.Pool.{pool};
 ghost use Rattle.loading.specs.OnPool as OnPool;
@@ -13,7 +15,7 @@ mod check;
 mod edge;
 mod store;
 
-#[derive(Drop)]
+#[derive(Clone, Copy)]
 pub enum Loaded {
     // The places in use.
     Done(u32),

@@ -1,4 +1,6 @@
 // Neighbours (`possible_intersection.rs`): two segments that have become neighbours in the status are cut where they cross or overlap.
+#![tactic(auto)]
+
 ghost use Rattle.std.specs.Prelude.{◌≡◌};
 ghost use Rattle.events.specs.Binary64.{at_binary64, in_mode};
 ghost use Rattle.events.specs.Pool.{pool, stored};
@@ -14,13 +16,13 @@ mod overlap;
 mod step;
 
 // What was done, by the source's code, or why it was not done to the end.
-#[derive(Drop)]
+#[derive(Clone, Copy)]
 pub enum Met {
     Code(u32),
     Refused(Refusal),
 }
 
-#[derive(Drop)]
+#[derive(Clone, Copy)]
 pub struct Neighbours {
     // The places in use now.
     pub used: u32,

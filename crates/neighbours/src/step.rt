@@ -9,13 +9,13 @@ use division::{Division, divide_segment};
 use numbers::Point;
 use refusals::Refusal;
 
-#[derive(Drop)]
+#[derive(Clone, Copy)]
 pub enum Stop {
     Going,
     Stopped(Refusal),
 }
 
-#[derive(Drop)]
+#[derive(Clone, Copy)]
 pub struct Step {
     pub used: u32,
     pub stop: Stop,

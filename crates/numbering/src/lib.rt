@@ -1,4 +1,6 @@
 // The contour numbers that a walk leaves in the pool: those found there are forgotten, and those given are written.
+#![tactic(auto)]
+
 ghost use Rattle.std.specs.Prelude.{◌≡◌, ◌≤◌, length};
 ghost use Rattle.events.specs.Pool.{pool, size};
 ghost use Rattle.contours.specs.Connect.{contour_of};

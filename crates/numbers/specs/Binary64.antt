@@ -1,4 +1,4 @@
--- Numbers are binary64, IEEE 754, nearest, ties to even: values and operators are the toolchain's `lib.Ieee`. Here stands what 01 adds to them.
+-- Numbers are binary64, IEEE 754, nearest, ties to even: values and operators are the toolchain's `Rattle.std.specs.Float.Ieee`. Here stands what 01 adds to them.
 use Rattle.std.specs.Prelude.{◌≡◌, Bool, true, false, not, cond, List, [], ◌∷◌, ℕ, suc, T, Float}
 use Rattle.std.specs.Float.{nan, inf, fin, binary64}
 use Rattle.std.specs.Float.Ieee.{lt, le, eq, ne, neg, fits, of_bits}

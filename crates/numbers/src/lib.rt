@@ -1,6 +1,8 @@
 // Binary64 numbers and the plain structs of them (`helper.rs`).
+#![tactic(auto)]
+
 ghost use Rattle.std.specs.Prelude.{◌≡◌};
-ghost use Rattle.numbers.specs.Binary64.{unsigned as unsignedOf, not_finite, first_not_finite, minimum, maximum};
+ghost use Rattle.numbers.specs.Binary64.{unsigned as unsigned_of, not_finite, first_not_finite, minimum, maximum};
 ghost use Rattle.numbers.specs.Next.{next_pattern, next_up};
 
 // 2^1023: a number that lies between its negative and it is finite.
@@ -12,20 +14,20 @@ pub mod words;
 // The pattern of minus zero.
 const MINUS_ZERO: u64 = 0x8000_0000_0000_0000;
 
-#[derive(Drop)]
+#[derive(Clone, Copy)]
 pub struct Coordinate {
     pub x: f64,
     pub y: f64,
 }
 
 // A point of two words: of binary64 each is the pattern of a number (`words`).
-#[derive(Drop)]
+#[derive(Clone, Copy)]
 pub struct Point {
     pub x: u64,
     pub y: u64,
 }
 
-#[derive(Drop)]
+#[derive(Clone, Copy)]
 pub struct BoundingBox {
     pub min: Coordinate,
     pub max: Coordinate,
@@ -33,7 +35,7 @@ pub struct BoundingBox {
 
 // Minus zero becomes zero.
 pub fn unsigned(x: f64) -> f64
-    ensures { result ≡ unsignedOf x }
+    ensures { result ≡ unsigned_of x }
 {
     if x == 0.0 {
         return 0.0;

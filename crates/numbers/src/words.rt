@@ -2,7 +2,7 @@
 ghost use Rattle.std.specs.Prelude.{◌≡◌};
 ghost use Rattle.std.specs.Float.{binary64};
 ghost use Rattle.std.specs.Float.Ieee.{of_bits, to_bits};
-ghost use Rattle.numbers.specs.Words.{value as valueOfWord, unfit_word, unsigned_word, value_of, words_of};
+ghost use Rattle.numbers.specs.Words.{value as value_of_word, unfit_word, unsigned_word, value_of, words_of};
 
 use crate::{Coordinate, Point};
 
@@ -27,7 +27,7 @@ pub fn number(w: u64) -> f64
 
 // A word that is not finite counts as 0.
 pub fn value(w: u64) -> f64
-    ensures { result ≡ valueOfWord w }
+    ensures { result ≡ value_of_word w }
 {
     if w % SIGN < INFINITY {
         return f64::from_bits(w);

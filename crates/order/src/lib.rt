@@ -1,4 +1,6 @@
 // Event order (`sweep_event.rs`).
+#![tactic(auto)]
+
 ghost use Rattle.std.specs.Prelude.{◌≡◌};
 ghost use Rattle.events.specs.Binary64.{at_binary64};
 ghost use Rattle.events.specs.Event.{shown, key};
@@ -14,7 +16,7 @@ use numbers::Point;
 use orientation::Sign;
 
 // What the orders see of a record and its partner. The points come first: so a point is copied as a whole.
-#[derive(Drop)]
+#[derive(Clone, Copy)]
 pub struct Key {
     pub point: Point,
     pub mate: Point,

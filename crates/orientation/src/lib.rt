@@ -1,4 +1,6 @@
 // Orientation: the exact sign of a turn (`signed_area.rs`).
+#![tactic(auto)]
+
 mod parts;
 mod quick;
 mod sum;
@@ -11,7 +13,7 @@ use quick::{certainly_above, exactly_zero, same_point};
 use refusals::{COORDINATE, Refusal};
 use sum::exact_sign;
 
-#[derive(Drop)]
+#[derive(Clone, Copy)]
 pub enum Sign {
     Negative,
     Zero,
@@ -45,7 +47,7 @@ pub fn signed_area(p0: Coordinate, p1: Coordinate, p2: Coordinate) -> Sign
     exact_sign(p0, p1, p2)
 }
 
-#[derive(Drop)]
+#[derive(Clone, Copy)]
 pub enum Oriented {
     Refused(Refusal),
     Turn(Sign),

@@ -8,7 +8,7 @@ const SIGN: u64 = 0x8000_0000_0000_0000;
 const LEADING_DIGIT: u64 = 0x0010_0000_0000_0000;
 
 // The size in units of 2^-1074 is digits * 2^shift. A number that is not finite counts as 0.
-#[derive(Drop)]
+#[derive(Clone, Copy)]
 pub struct Part {
     pub minus: bool,
     pub digits: u64,

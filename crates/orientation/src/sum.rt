@@ -40,7 +40,7 @@ fn add_at(acc: &mut [u64; WORDS], i: usize, w: u64)
     }
 }
 
-#[derive(Drop)]
+#[derive(Clone, Copy)]
 struct Three {
     a: u64,
     b: u64,

@@ -9,7 +9,7 @@ use lib.Seq.{length-sets}
 use Rattle.lists.proofs.Fronts.{first-are}
 use Rattle.crossing.specs.Modes.{ordered}
 use Rattle.events.specs.Binary64.{at_binary64, in_mode}
-use Rattle.events.specs.Pool.{Pool, pool, size, stored}
+use Rattle.events.specs.Pool.{Pool, size, stored}
 use Rattle.events.proofs.Stored.{pool-stored}
 use Rattle.class.specs.declared.Operation.{Operation}
 use Rattle.checks.specs.declared.Check.{Check}
@@ -27,7 +27,6 @@ use Rattle.sweep_order.specs.SameBut.{Renaming, rename_refusal}
 use Rattle.sweep_order.specs.OnPool.{Reordered, SameAfter, OrderFreeCalls, rename_outcome, rename_swept}
 use Rattle.sweep_order.proofs.AtBinary64.{order-of-loading}
 use Rattle.sweep_room.specs.Room.{first_places}
-use Rattle.connection.specs.Connection.{lent}
 use Rattle.overlay_work.specs.Overlay.{pool_places, no_points, none_taken, empty_pool, overlay_taken, swept_to, after_sweep, loaded_to, after_loading, overlay_edges_in, overlay_edges}
 use Rattle.overlay_work.proofs.Handing.{taken-within, in_use}
 use Rattle.overlay_order.specs.Lines.{SameWork, same_number}

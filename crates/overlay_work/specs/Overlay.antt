@@ -8,7 +8,6 @@ use Rattle.events.specs.Pool.{Pool, pool}
 use Rattle.class.specs.declared.Operation.{Operation}
 use Rattle.checks.specs.Checks.{few_events}
 use Rattle.sheet.specs.Sheet.{Sheet, most_edges}
-use Rattle.sheet.specs.Reading as Reading
 use Rattle.sheet.specs.Reading.{Reading, read_sheet}
 use Rattle.sheet.specs.Stored.{ends_of, labels_of}
 use Rattle.loading.specs.declared.Loaded.{Loaded}

@@ -1,4 +1,6 @@
 // Overlay's work (01, 'The sheet'): from the bytes of a sheet to the bytes of its contours.
+#![tactic(auto)]
+
 ghost use Rattle.std.specs.Prelude.{◌≡◌, ◌≤◌, length};
 ghost use Rattle.overlay_work.specs.Overlay.{pool_places, few_places, left, put, is_full, answered, overlay_edges_in, overlay_edges};
 ghost use Rattle.overlay_work.specs.Overlay as Spec;
@@ -18,7 +20,7 @@ use steps::load_edges;
 mod places;
 mod steps;
 
-#[derive(Drop)]
+#[derive(Clone, Copy)]
 pub enum Overlaid {
     // The bytes of the text.
     Printed(usize),

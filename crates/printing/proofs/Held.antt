@@ -55,7 +55,9 @@ rows-held (o ∷ os) a c b d i j h k =
     let j' : length (b ++ hs) ≡ j + length o.holes = omega (arith, length-append b hs) in
     let first = row-held o a (all_corners os ++ c) b (all_holes os ++ d) i j h k in
     let others = rows-held os (a ++ cs) c (b ++ hs) d (i + length o.corners) (j + length o.holes) i' j' in
-    rw (front, back) ((λ x. first x ∷ (ap (λ (l : List (List ℕ)). map (drawn_row l (b ++ (hs ++ (all_holes os ++ d)))) (rows_from (i + length o.corners) (j + length o.holes) os)) next ∙ ap (λ (l : List ℕ). map (drawn_row ((a ++ cs) ++ (all_corners os ++ c)) l) (rows_from (i + length o.corners) (j + length o.holes) os)) after ∙ others) x))
+    ap (λ (l : List (List ℕ)). map (drawn_row l (b ++ (all_holes (o ∷ os) ++ d))) (rows_from i j (o ∷ os))) front
+    ∙ ap (λ (l : List ℕ). map (drawn_row (a ++ (cs ++ (all_corners os ++ c))) l) (rows_from i j (o ∷ os))) back
+    ∙ (λ x. first x ∷ (ap (λ (l : List (List ℕ)). map (drawn_row l (b ++ (hs ++ (all_holes os ++ d)))) (rows_from (i + length o.corners) (j + length o.holes) os)) next ∙ ap (λ (l : List ℕ). map (drawn_row ((a ++ cs) ++ (all_corners os ++ c)) l) (rows_from (i + length o.corners) (j + length o.holes) os)) after ∙ others) x)
 
 -- what is left of the arrays, c and d and further rows, does not matter
 pub held : (os : List (Outline Point)) (corners c : List (List ℕ)) (contours : List (List ℕ)) (holes d : List ℕ) (count : ℕ) → corners ≡ all_corners os ++ c → holes ≡ all_holes os ++ d → take count contours ≡ rows_from 0 0 os → printed_arrays corners contours holes count ≡ printed os

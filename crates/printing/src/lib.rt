@@ -1,5 +1,7 @@
 // Printing (01, 'The sheet'): contours from lent arrays, a refusal, or a sheet, as bytes in a lent array. What does not fit is not stored; the answer
 // is how many bytes are wanted, at most the largest number that can be told.
+#![tactic(auto)]
+
 pub mod lines;
 pub mod puts;
 pub mod sheets;

@@ -1,4 +1,6 @@
 // 01's entries on single records of a pool: checked first, refused with all arrays as lent, else answered.
+#![tactic(auto)]
+
 ghost use Rattle.std.specs.Prelude.{◌≡◌};
 ghost use Rattle.events.specs.Pool.{pool};
 ghost use Rattle.checks.specs.OnPool.{checked_left_named};
@@ -15,7 +17,7 @@ use segments::{Ordering, compare_segments_at};
 pub mod dividing;
 mod in_use;
 
-#[derive(Drop)]
+#[derive(Clone, Copy)]
 pub enum Before {
     Refused(Refusal),
     Told(bool),
@@ -31,7 +33,7 @@ pub fn is_before(points: &[[u64; 2]], marks: &[[u32; 12]], a: u32, b: u32) -> Be
     }
 }
 
-#[derive(Drop)]
+#[derive(Clone, Copy)]
 pub enum Compared {
     Refused(Refusal),
     Told(Ordering),
@@ -53,7 +55,7 @@ pub fn compare_segments(
     }
 }
 
-#[derive(Drop)]
+#[derive(Clone, Copy)]
 pub enum Computed {
     Refused(Refusal),
     Done,

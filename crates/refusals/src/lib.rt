@@ -1,6 +1,7 @@
 // What a refused call tells: 01, 'Numbers given back'.
+#![tactic(auto)]
 
-#[derive(Drop)]
+#[derive(Clone, Copy)]
 pub struct Refusal {
     pub number: u64,
     pub place: u64,

@@ -1,4 +1,6 @@
 // Which records of a pool are in the result, and how many of a list are.
+#![tactic(auto)]
+
 ghost use Rattle.std.specs.Prelude.{◌≡◌, length};
 ghost use Rattle.events.specs.Pool.{pool, row_at};
 ghost use Rattle.contours.specs.Result.{in_result, results, result_edges};

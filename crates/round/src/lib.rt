@@ -1,5 +1,7 @@
 // Round a point (`get_next_pos`): the next end there that is not yet walked. Right ends upwards, then left ends downwards, and round again.
 // A mark is 0 for a position that is not yet walked. What is not found is told as the number of marks.
+#![tactic(auto)]
+
 ghost use Rattle.std.specs.Prelude.{◌≡◌, true, false, ◌-◌, ◌<◌};
 ghost use Rattle.rows.specs.Rows.{lent};
 ghost use Rattle.round.specs.Round.{mark_in, fitting, rights_from, lefts_from, from_left, from_right, next_in, next_pos};

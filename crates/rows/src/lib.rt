@@ -1,6 +1,8 @@
 // The table of result events in two arrays that the caller lends: a row is one end of an edge, every link a position.
 // A row is left (1 or another number), the other end's position, the position of the edge below + 1 or 0 for none, and whether that is OutIn (as left).
 // Outside the table a read gives a right end at the point of a blank record, and a store changes nothing.
+#![tactic(auto)]
+
 ghost use Rattle.std.specs.Prelude.{◌≡◌, set};
 ghost use Rattle.rows.specs.Rows.{lent, put, point_in, point_code, end_of, end_in, end_code};
 
@@ -8,7 +10,7 @@ use events::pool::number_of_flag;
 use numbers::Point;
 
 // What a row holds beside its point.
-#[derive(Drop)]
+#[derive(Clone, Copy)]
 pub struct End {
     pub left: bool,
     // The position of the edge's other end.

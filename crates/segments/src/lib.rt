@@ -1,4 +1,6 @@
 // Segment order (`compare_segments.rs`): which of two segments of the status lies below.
+#![tactic(auto)]
+
 mod quick;
 
 ghost use Rattle.std.specs.Prelude.{◌≡◌};
@@ -15,7 +17,7 @@ use order::{Key, before, is_zero, key_at};
 use orientation::Sign;
 use quick::is_beside;
 
-#[derive(Drop)]
+#[derive(Clone, Copy)]
 pub enum Ordering {
     Less,
     Equal,
@@ -119,7 +121,7 @@ fn old_is_below(old: Key, new: Key, mode: u32) -> bool
 }
 
 // What the boxes of two segments are certain of.
-#[derive(Drop)]
+#[derive(Clone, Copy)]
 enum ByBoxes {
     Less,
     Greater,

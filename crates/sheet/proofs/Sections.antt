@@ -17,7 +17,7 @@ use Rattle.sheet.specs.declared.edges.ReadEdge as edge
 use Rattle.sheet.specs.declared.layers.Count as count
 use Rattle.sheet.specs.declared.layers.Section.{Section}
 use Rattle.sheet.specs.declared.layers.Layer as layer
-use Rattle.sheet.specs.Reading.{Parsed, Got, Wrong, Edges, edge_of, on_edge, edges_of, Layer, Whole, Broken, whole_by, Counted, Count, Many, Malformed, numeral, over, count_with, count_by, count_from, count_of, layer_by, layer_of}
+use Rattle.sheet.specs.Reading.{Parsed, Got, Wrong, edge_of, on_edge, edges_of, Whole, Broken, whole_by, Counted, Count, Many, Malformed, numeral, over, count_with, count_by, count_from, count_of, layer_by, layer_of}
 use Rattle.sheet.specs.Shown.{shown_edge, shown_count, begun, shown_layer, CountedLayer}
 
 -- ---- one edge

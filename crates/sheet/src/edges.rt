@@ -13,21 +13,21 @@ const NUMBER: usize = 17;
 
 const CORNER: usize = 34;
 
-#[derive(Drop)]
+#[derive(Clone, Copy)]
 pub struct Edge {
     pub ring: u32,
     pub from: Point,
     pub to: Point,
 }
 
-#[derive(Drop)]
+#[derive(Clone, Copy)]
 enum ReadCorner {
     Bits(Point),
     Wrong,
 }
 
 // With the place after its line.
-#[derive(Drop)]
+#[derive(Clone, Copy)]
 pub enum ReadEdge {
     Line(Edge, usize),
     Wrong,

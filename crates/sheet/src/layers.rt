@@ -15,7 +15,7 @@ use text::words::{after, has_word};
 // A line is not what stands there.
 pub const MALFORMED: u64 = 10;
 
-#[derive(Drop)]
+#[derive(Clone, Copy)]
 enum Count {
     Edges(u32, usize),
     Many,
@@ -67,7 +67,7 @@ fn read_count(s: &[u8], at: usize, word: &[u8], most: u32) -> Count
 }
 
 // How many edges were read, and the place after them.
-#[derive(Drop)]
+#[derive(Clone, Copy)]
 pub struct Section {
     pub count: u32,
     pub after: usize,
@@ -98,7 +98,7 @@ fn read_edges(s: &[u8], at: usize, count: u32, place: u32, rows: &mut [[u64; 5]]
     }
 }
 
-#[derive(Drop)]
+#[derive(Clone, Copy)]
 pub enum Layer {
     Whole(Section),
     Broken(Refusal),

@@ -1,4 +1,6 @@
 // The sheet (01, 'The sheet'): bytes read line by line as an operation and the edges of two layers.
+#![tactic(auto)]
+
 pub mod edges;
 mod layers;
 pub mod numerals;
@@ -25,7 +27,7 @@ use stores::store_rows;
 pub const MAX_EDGES: u32 = 256;
 
 // The operation and how many edges each layer has, or why the bytes are no sheet.
-#[derive(Drop)]
+#[derive(Clone, Copy)]
 pub enum Told {
     Read(Operation, u32, u32),
     Refused(Refusal),

@@ -42,7 +42,7 @@ pub fn numeral(s: &[u8], at: usize) -> usize
     n
 }
 
-#[derive(Drop)]
+#[derive(Clone, Copy)]
 pub enum Ring {
     Number(u32, usize),
     Wrong,

@@ -7,7 +7,7 @@ use class::Operation;
 use text::words::{after, has_word};
 
 // With the place after its line.
-#[derive(Drop)]
+#[derive(Clone, Copy)]
 pub enum Found {
     Line(Operation, usize),
     Wrong,

@@ -2,7 +2,7 @@
 ghost use Rattle.std.specs.Prelude.{◌≡◌, false};
 ghost use Rattle.starts.specs.Steps.{place, mark_below, nest_at, context_of, Shallow};
 
-#[derive(Drop)]
+#[derive(Clone, Copy)]
 pub struct Place {
     // By 9: the edge below is OutIn and has no contour.
     pub refused: bool,

@@ -1,6 +1,8 @@
 // All contours of a table (`connect_edges`): each position in turn that is not yet walked starts one.
 // Whether the points stand in order is asked once: where they do, a walk need look only at the rows around a position.
 // What a contour's holes and depth need of it is kept in `nests`: its first corner, where its corners end, its parent + 1 or 0, its depth.
+#![tactic(auto)]
+
 ghost use Rattle.std.specs.Prelude.{◌≡◌, ◌≤◌, length, replicate};
 ghost use Rattle.rows.specs.Rows.{lent};
 ghost use Rattle.starts.specs.Starts.{sheet, turn_of, traced_on};
@@ -14,7 +16,7 @@ mod context;
 mod start;
 
 // How far all contours have come.
-#[derive(Drop)]
+#[derive(Clone, Copy)]
 pub struct Turn {
     // The number of contours, and where their corners end.
     pub count: u32,

@@ -1,4 +1,6 @@
 // The status in a lent array: its first n places hold the members, from the bottom. Members come and go by `lists::insert_at` and `remove_at`.
+#![tactic(auto)]
+
 ghost use Rattle.std.specs.Prelude.{◌≡◌, eqb, length, take};
 ghost use Rattle.lists.specs.Lists.{slot};
 ghost use Rattle.status.specs.Status.{member, below};

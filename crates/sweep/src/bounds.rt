@@ -12,14 +12,14 @@ use events::pool::read_event;
 use numbers::Point;
 
 // The point of a layer with the largest x; an empty layer has none.
-#[derive(Drop)]
+#[derive(Clone, Copy)]
 pub enum Reach {
     Empty,
     To(Point),
 }
 
 // Of both layers.
-#[derive(Drop)]
+#[derive(Clone, Copy)]
 pub struct Bounds {
     pub subject: Reach,
     pub clip: Reach,

@@ -1,4 +1,6 @@
 // The sweep (`subdivide_segments.rs`).
+#![tactic(auto)]
+
 ghost use Rattle.std.specs.Prelude.{◌≡◌, ◌≤◌, length};
 ghost use Rattle.events.specs.Binary64.{at_binary64, in_mode};
 ghost use Rattle.events.specs.Pool.{pool, stored};
@@ -23,14 +25,14 @@ use refusals::{Refusal, SIZE};
 use run::run;
 use turn::{Stop, line_up, start};
 
-#[derive(Drop)]
+#[derive(Clone, Copy)]
 pub enum Outcome {
     Done,
     Refused(Refusal),
 }
 
 // What a sweep did, to the end or until it was refused.
-#[derive(Drop)]
+#[derive(Clone, Copy)]
 pub struct Swept {
     // The events taken.
     pub taken: u32,

@@ -7,14 +7,14 @@ ghost use Rattle.sweep.specs.Turn.{start_turn, ended_turn, taken_turn, met_turn,
 use neighbours::{Met, Neighbours};
 use refusals::Refusal;
 
-#[derive(Drop)]
+#[derive(Clone, Copy)]
 pub enum Stop {
     Going,
     Ended,
     Refused(Refusal),
 }
 
-#[derive(Drop)]
+#[derive(Clone, Copy)]
 pub struct Turn {
     // The places of the pool in use.
     pub used: u32,

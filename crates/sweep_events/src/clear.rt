@@ -34,7 +34,7 @@ pub fn ready_of(points: &[[u64; 2]], marks: &[[u32; 12]], used: u32) -> usize
 }
 
 // What a member's words are held to, once for all members: both y, its start's x, its end's x.
-#[derive(Drop)]
+#[derive(Clone, Copy)]
 pub struct Bounds {
     pub lower: Run,
     pub reached: Run,

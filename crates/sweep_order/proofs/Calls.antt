@@ -5,7 +5,7 @@ use Prim.Native.Nat.{ℕ, suc, ◌-◌, ◌/◌}
 use lib.ListN.{length, get_or, length-map}
 use lib.Seq.{sets}
 use Rattle.events.specs.Binary64.{at_binary64, in_mode}
-use Rattle.events.specs.Pool.{Pool, size, stored}
+use Rattle.events.specs.Pool.{Pool, stored}
 use Rattle.events.proofs.Stored.{pool-stored}
 use Rattle.events.proofs.Looks.{pool-blanks}
 use Rattle.events.proofs.Lent.{points-away, marks-away, points-away-enter, marks-away-enter}

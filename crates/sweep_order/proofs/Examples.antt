@@ -90,11 +90,11 @@ long-last = refl
 -- ---- Where an edge does not load, the order tells which refusal comes first: of an edge that is not fit and one without length.
 
 -- the pattern of a not-a-number
-abbrev not_aNumber : ℕ
-not_aNumber = 0x7ff8_0000_0000_0000
+abbrev not_a_number : ℕ
+not_a_number = 0x7ff8_0000_0000_0000
 
 abbrev unfit : Edge Point
-unfit = edge true (at not_aNumber zero) (at one one)
+unfit = edge true (at not_a_number zero) (at one one)
 
 abbrev dot : Edge Point
 dot = edge true (at one one) (at one one)

@@ -19,7 +19,7 @@ use Rattle.division.proofs.Sides.{MoveLaws}
 use Rattle.neighbours.proofs.Likeness.{Likeness}
 use Rattle.neighbours.proofs.Invariants.{Invariant, numbers_in_use}
 use Rattle.neighbours.proofs.Both.{both, stores, numbers, store-known, numbers-both}
-use Rattle.waiting.specs.Waiting.{first, flagged}
+use Rattle.waiting.specs.Waiting.{flagged}
 use Rattle.waiting.proofs.First.{found}
 use Rattle.sweep_events.proofs.Adapters.{events-both}
 use Rattle.sweep.specs.declared.turn.Stop.{Stop}

@@ -28,7 +28,7 @@ table =
         P7 = record { number_is = refl; values_are = refl };
         P8 = record { number_is = refl; values_are = refl };
       };
-      in_order_lem = record {
+      in_order = record {
         P1 = record { number_is = refl; values_are = refl };
         P2 = record { number_is = refl; values_are = refl };
         P3 = record { number_is = refl; values_are = refl };

@@ -66,7 +66,7 @@ pub record Crossings (mode : ℕ) : Type 0 where
 
 pub record Table : Type 0 where
   pub plainly : Crossings plain
-  pub in_order_lem : Crossings ordered
+  pub in_order : Crossings ordered
   -- orientation of (1,1), (2,2), (2^-60,0): negative
   pub P9 : Orientation.number_of (signed_area (at one one) (at two two) (at (small 60) zero)) ≡ negsuc 0
   -- (0,1)-(4,0) cut at (0,0.5): the cut becomes (2^-1074,0.5)

@@ -1,4 +1,6 @@
 // The table of result events in lent arrays: the result events of a list in order, their places, then their rows, every link a position.
+#![tactic(auto)]
+
 ghost use Rattle.std.specs.Prelude.{◌≡◌};
 ghost use Rattle.events.specs.Pool.{pool};
 ghost use Rattle.rows.specs.Rows.{lent};

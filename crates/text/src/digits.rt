@@ -13,7 +13,7 @@ pub const HEX_DIGITS: usize = 16;
 pub const DECIMAL_DIGITS: usize = 19;
 
 // What stands at a place: a number, or bytes that are no digits.
-#[derive(Drop)]
+#[derive(Clone, Copy)]
 pub enum Read {
     Value(u64),
     Nothing,

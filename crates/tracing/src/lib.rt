@@ -1,5 +1,7 @@
 // All contours of a table (`connect_edges`), whole: corners, parents, depths, holes, and how many are open.
 // A contour is: its first corner, where its corners end, its parent + 1 or 0, its depth, its first hole, its number of holes.
+#![tactic(auto)]
+
 ghost use Rattle.std.specs.Prelude.{◌≡◌, ◌≤◌, length};
 ghost use Rattle.checks.specs.Checks.{few_events};
 ghost use Rattle.rows.specs.Rows.{lent};
@@ -11,7 +13,7 @@ use holes::hold_contours;
 use starts::trace_starts;
 
 // How many places of each array are in use, and what stopped the contours.
-#[derive(Drop)]
+#[derive(Clone, Copy)]
 pub struct Traced {
     pub contours: u32,
     pub corners: u32,

@@ -1,17 +1,19 @@
 // One contour's points: a part of the lent points, shown and not copied.
+#![tactic(auto)]
+
 ghost use Rattle.std.specs.Prelude.{◌≡◌, length};
 ghost use Rattle.view.specs.View.{corner_at, part_of};
 
 use numbers::Point;
 
-#[derive(Drop)]
+#[derive(Clone, Copy)]
 pub enum Corner {
     At(Point),
     Nothing,
 }
 
 // Holds a contour's part.
-#[derive(Drop)]
+#[derive(Clone, Copy)]
 pub struct ContourView<'a> {
     pub points: &'a [[u64; 2]],
 }

@@ -1,4 +1,6 @@
 // Of the waiting events of a pool: which of two is taken first, and whether they tie.
+#![tactic(auto)]
+
 ghost use Rattle.std.specs.Prelude.{◌≡◌};
 ghost use Rattle.events.specs.Binary64.{at_binary64};
 ghost use Rattle.events.specs.Coordinates.{ahead};

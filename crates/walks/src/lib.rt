@@ -1,6 +1,8 @@
 // The walk of one contour (`connect_edges`): from its first position over its edges until it is home again, or no end is left.
 // Where `near`, only the rows around a position that have its point are tried: see `round`.
 // `walked` holds 0 for a position that is not yet walked, c + 1 for one that is walked in contour c.
+#![tactic(auto)]
+
 ghost use Rattle.std.specs.Prelude.{◌≡◌, ◌+◌, ◌<◌, length, set};
 ghost use Rattle.rows.specs.Rows.{lent};
 ghost use Rattle.walks.specs.Walks.{trip, toured, walked_from, edges_from, heading, Stepped};
@@ -10,7 +12,7 @@ use numbers::Point;
 use round::next_pos;
 use rows::{end_at, point_at, put_point};
 
-#[derive(Drop)]
+#[derive(Clone, Copy)]
 pub struct Walk {
     // Where the corners end.
     pub end: usize,
@@ -19,7 +21,7 @@ pub struct Walk {
 }
 
 // Edges walked one after the other.
-#[derive(Drop)]
+#[derive(Clone, Copy)]
 struct Edges {
     end: usize,
     // The other end of the last.

@@ -1,0 +1,8 @@
+-- Each return rewrites by the tests that led to it.
+use Rattle.crossing.proofs.boxes.lesser_of.Goals as goal
+
+pub returns-then-a-b : goal.returns-then-a-b
+returns-then-a-b c = rw c.if-a-b.true
+
+pub returns-else-a-b : goal.returns-else-a-b
+returns-else-a-b c = rw c.if-a-b.false

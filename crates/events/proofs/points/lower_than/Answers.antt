@@ -1,0 +1,29 @@
+-- Each return rewrites by the tests that led to it, which bound the word.
+use Rattle.std.proofs.Common.{sym, ◌∙◌, arith}
+use Rattle.events.specs.Runs.{lower_words}
+use Rattle.events.proofs.Runs.{above_zero_lem, below-zero}
+use Rattle.events.proofs.points.lower_than.Goals as goal
+
+pub overflow_add-result : goal.overflow_add-result
+overflow_add-result c = omega (arith, above_zero_lem _ (sym c.is_above_zero.ensures ∙ c.if-is_above_zero.true))
+
+pub returns-then-is_above_zero : goal.returns-then-is_above_zero
+unfolding lower_words
+returns-then-is_above_zero c = rw (← c.is_above_zero.ensures, c.if-is_above_zero.true)
+
+pub overflow_add-result-then-is_below_zero : goal.overflow_add-result-then-is_below_zero
+overflow_add-result-then-is_below_zero c = omega (arith, below-zero _ (sym c.is_below_zero.ensures ∙ c.if-is_below_zero.true))
+
+pub overflow_sub-result : goal.overflow_sub-result
+overflow_sub-result c = omega (arith, below-zero _ (sym c.is_below_zero.ensures ∙ c.if-is_below_zero.true))
+
+pub overflow_sub-result-then-is_below_zero : goal.overflow_sub-result-then-is_below_zero
+overflow_sub-result-then-is_below_zero c = omega (arith, below-zero _ (sym c.is_below_zero.ensures ∙ c.if-is_below_zero.true))
+
+pub returns-then-is_below_zero : goal.returns-then-is_below_zero
+unfolding lower_words
+returns-then-is_below_zero c = rw (← c.is_above_zero.ensures, c.if-is_above_zero.false, ← c.is_below_zero.ensures, c.if-is_below_zero.true)
+
+pub returns : goal.returns
+unfolding lower_words
+returns c = rw (← c.is_above_zero.ensures, c.if-is_above_zero.false, ← c.is_below_zero.ensures, c.if-is_below_zero.false)

@@ -1,0 +1,11 @@
+-- The case that was matched picks the number.
+use Rattle.events.specs.Pool.{there_number}
+use Rattle.events.proofs.pool.number_of_there.Goals as goal
+
+pub returns-in-None : goal.returns-in-None
+unfolding there_number
+returns-in-None c = rw c.in-None.is
+
+pub returns-in-To : goal.returns-in-To
+unfolding there_number
+returns-in-To c = rw c.in-To.is

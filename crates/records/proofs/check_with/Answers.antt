@@ -1,0 +1,8 @@
+-- The link that was matched picks the records.
+use Rattle.records.proofs.check_with.Goals as goal
+
+pub returns-in-None : goal.returns-in-None
+returns-in-None c = rw (c.in-None.is, c.check_left_one.ensures)
+
+pub returns-in-To : goal.returns-in-To
+returns-in-To c = rw (c.in-To.is, c.check_left_two.ensures)

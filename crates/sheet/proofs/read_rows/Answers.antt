@@ -1,0 +1,25 @@
+-- A refused sheet changes nothing; the rows of an accepted one, in the first places of the array that was read into, are copied layer by layer.
+use mathlib.Core.Path.{sym}
+use lib.Seq.{length-take-le}
+use Rattle.sheet.proofs.Copies.{rows-refused, read-within, subject-within, rows-read}
+use Rattle.sheet.proofs.read_rows.Goals as goal
+
+pub slice_bounds-own-end : goal.slice_bounds-own-end
+slice_bounds-own-end c = subject-within c.args.bytes.now _ c.read_lines.ensures.value _ _ _ c.in-Read.is _ _ c.no_rows-own.ensures c.read_lines.auto.rows
+
+pub slice_bounds-copy_rows-end : goal.slice_bounds-copy_rows-end
+slice_bounds-copy_rows-end c = sym (length-take-le _ _ (subject-within c.args.bytes.now _ c.read_lines.ensures.value _ _ _ c.in-Read.is _ _ c.no_rows-own.ensures c.read_lines.auto.rows))
+
+pub slice_bounds-copy_rows-end-in-Read : goal.slice_bounds-copy_rows-end-in-Read
+slice_bounds-copy_rows-end-in-Read c = read-within c.args.bytes.now _ c.read_lines.ensures.value _ _ _ c.in-Read.is _ _ c.no_rows-own.ensures c.read_lines.auto.rows
+
+pub returns-in-Refused : goal.returns-in-Refused
+returns-in-Refused c =
+    let a = c.args in
+    rows-refused a.bytes.now _ c.read_lines.ensures.value _ c.in-Refused.is a.subject.now a.clip.now
+
+pub returns-in-Read : goal.returns-in-Read
+returns-in-Read c =
+    let a = c.args in
+    let r = c.read_lines.ensures in
+    rows-read a.bytes.now _ r.value _ _ _ c.in-Read.is _ _ c.no_rows-own.ensures r.rows_after _ _ _ _ c.copy_rows.ensures c.copy_rows-in-Read.ensures

@@ -1,0 +1,23 @@
+-- The test says whether the place is there; a store past the end changes nothing.
+use borrow.Author.Tests.{ltb-true, ltb-false}
+use mathlib.Core.Path.{refl, sym, ◌∙◌}
+use native.Mathlib.Omega.{arith}
+use lib.Seq.{set_out}
+use Rattle.sheet.specs.Stored.{labels_of_row}
+use Rattle.sheet.proofs.stores.put_labels.Goals as goal
+
+pub bounds-labels-at : goal.bounds-labels-at
+bounds-labels-at c = ltb-true _ _ (sym c.is_below.ensures ∙ c.if-is_below.true)
+
+pub returns-then-is_below : goal.returns-then-is_below
+unfolding labels_of_row
+returns-then-is_below c = refl
+
+pub returns-else-is_below : goal.returns-else-is_below
+returns-else-is_below c = sym (set_out _ _ _ (ltb-false _ _ (sym c.is_below.ensures ∙ c.if-is_below.false)))
+
+pub overflow_add-at : goal.overflow_add-at
+overflow_add-at c = omega (arith, bounds-labels-at c)
+
+pub offset_bounds-labels-at : goal.offset_bounds-labels-at
+offset_bounds-labels-at c = omega (arith, bounds-labels-at c)
