@@ -28,6 +28,6 @@ def shown(answer):
 
 
 lines = [" ".join([call] + [bits(float(x)) for x in given]) for _, call, given in ASKED]
-run = subprocess.run(["tests/x86", "target/bin/calls"], input="\n".join(lines) + "\n", capture_output=True, text=True, check=True)
+run = subprocess.run(["target/bin/calls"], input="\n".join(lines) + "\n", capture_output=True, text=True, check=True)
 for (what, call, given), answer in zip(ASKED, run.stdout.splitlines(), strict=True):
     print(f"{what}\n    {call} {' '.join(f'{x:g}' for x in given)}\n    -> {shown(answer)}")

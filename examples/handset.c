@@ -1,8 +1,8 @@
 /* What a handset does: a sheet in, a map out, through the C entry that arranges the sheet first, so that the map is the same however it was saved.
 
-       rt staticlib overlay_entry
-       tests/cc86 -Iinclude examples/handset.c target/staticlib/liboverlay_entry.a -o target/handset
-       tests/x86 target/handset < examples/floor/floor.sheet
+       tools/build overlay_entry
+       gcc -Iinclude examples/handset.c target/staticlib/liboverlay_entry.a -o target/handset
+       target/handset < examples/floor/floor.sheet
 
    The buffer is grown once to what the entry asks for. */
 #include <bezorika.h>

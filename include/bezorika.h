@@ -1,4 +1,4 @@
-/* Bezorika's C entries: three calls on numbers (libentries.a, `rt staticlib
+/* Bezorika's C entries: three calls on numbers (libentries.a, `tools/build
    entries`), the stages one by one, and a sheet from bytes to bytes; the
    archives of these stand above each.
 
@@ -70,7 +70,7 @@ uint64_t bezorika_crossing_ordered(double ax, double ay, double bx, double by,
 /* The modes of crossing. Every number but 0 means the ordered one. */
 enum { BEZORIKA_PLAIN = 0, BEZORIKA_ORDERED = 1 };
 
-/* ---- The stages one by one (libstages.a, `rt staticlib stages`)
+/* ---- The stages one by one (libstages.a, `tools/build stages`)
 
    A pool is two arrays of one length, at most 4096: points[i] is the point of
    record i, marks[i] its twelve numbers: left, subject (1 or 0), ring, partner,
@@ -128,7 +128,7 @@ uint64_t bezorika_connect(const double (*points)[2], size_t points_length,
                           uint32_t *holes, size_t holes_length,
                           uint32_t counts[4], uint64_t *place);
 
-/* ---- A sheet from bytes to bytes (liboverlay_entry.a, `rt staticlib overlay_entry`)
+/* ---- A sheet from bytes to bytes (liboverlay_entry.a, `tools/build overlay_entry`)
 
    Reads a sheet from bytes and prints the map's text into out, no byte past
    out_length, whatever the bytes are. Crossings are in the ordered mode.
@@ -164,7 +164,7 @@ uint64_t bezorika_overlay(const uint8_t *bytes, size_t bytes_length,
    by first end, second end and ring, and of an intersection, a union or an xor
    the lesser layer is the subject. Numbers go by their bits, in IEEE 754's
    totalOrder, so what can be read can be arranged, not-a-numbers too. Every way
-   of saving one drawing gives the same bytes (proved: `one-text`): sheets may
+   of saving one drawing gives the same bytes (proved: `one_text`): sheets may
    differ in the order of lines within a layer, the direction of edges, the sign
    of zeros and, but for a difference, in which layer is which. To arrange
    again changes nothing (`twice`).

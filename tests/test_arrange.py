@@ -9,7 +9,7 @@ import unittest
 sys.dont_write_bytecode = True
 from test_overlay import contour, number, overlay, printed
 
-ARRANGE = ["tests/x86", "target/bin/arrange"]
+ARRANGE = ["target/bin/arrange"]
 OPERATIONS = ("intersection", "difference", "union", "xor")
 MINUS_ZERO = 1 << 63
 # Every kind of number in IEEE 754's totalOrder, one sign of zero left out.

@@ -5,7 +5,7 @@ import subprocess
 import unittest
 from fractions import Fraction
 
-CALLS = ["tests/x86", "target/bin/calls"]
+CALLS = ["target/bin/calls"]
 
 
 def bits(x):

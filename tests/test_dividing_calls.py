@@ -5,7 +5,7 @@ import struct
 import subprocess
 import unittest
 
-CALLS = ["tests/x86", "target/bin/calls"]
+CALLS = ["target/bin/calls"]
 LIMIT = 2.0**100
 NAN, INFINITY, MINUS_INFINITY, ABOVE = "7ff8000000000000", "7ff0000000000000", "fff0000000000000", "4630000000000001"
 

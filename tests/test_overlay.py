@@ -6,7 +6,7 @@ import struct
 import subprocess
 import unittest
 
-OVERLAY = ["tests/x86", "target/bin/overlay"]
+OVERLAY = ["target/bin/overlay"]
 
 
 def bits(x):

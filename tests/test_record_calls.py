@@ -4,7 +4,7 @@ import struct
 import subprocess
 import unittest
 
-CALLS = ["tests/x86", "target/bin/calls"]
+CALLS = ["target/bin/calls"]
 
 
 def bits(x):

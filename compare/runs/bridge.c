@@ -1,5 +1,4 @@
 /* The stages and the sheet entry for another process: a request on standard input, its answer on standard output, numbers as this machine holds them.
-   The comparison talks to it through pipes, so that it also runs where the archive's processor is emulated.
 
    sweep:   1, edges, operation, mode, places; ends, labels
             -> refusals of loading and of the sweep, place; counts; points, marks of the places in use; taken

@@ -3,8 +3,6 @@
 The model reads the sheet, the stages of the archive sweep and connect its edges, the model writes the map; then bytes are
 compared. To each row lies are told in the place of right answers. Run from the repository, after compare/build. Exit status
 1 if any differ, nothing was compared, or a lie is not found."""
-import itertools
-import platform
 import re
 import subprocess
 import sys
@@ -15,11 +13,8 @@ import inputs
 import model
 from bridge import Bridge
 
-BRIDGE = ["tests/x86", "target/compare/bridge"]
-PROGRAM = ["tests/x86", "target/bin/overlay"]
-# Starting the program takes long where it is emulated: there so many sheets, and so many that it does not read to the end.
-THROUGH_PROGRAM = 200
-LONG = 20
+BRIDGE = ["target/compare/bridge"]
+PROGRAM = ["target/bin/overlay"]
 SHOWN = 5
 # Lies are told on so many sheets.
 LIED = 4000
@@ -126,18 +121,10 @@ def run_program(data):
     return run.stdout if run.returncode == 0 and not run.stderr else b"stopped: " + run.stderr
 
 
-def for_program(count, seed):
-    if platform.machine() == "x86_64":
-        return range(count)
-    numbers = list(range(0, count, max(count // THROUGH_PROGRAM, 1) | 1))
-    is_long = lambda number: len(inputs.sheet(number, seed)[1]) > model.PROGRAM_READS
-    return numbers + list(itertools.islice(filter(is_long, range(count)), LONG))
-
-
 def main(count, seed):
     with Bridge(BRIDGE) as bridge:
         entry = compare_entry(range(count), seed, bridge.stages, bridge.overlay)
-        program = compare_program(for_program(count, seed), seed, bridge.stages, run_program)
+        program = compare_program(range(count), seed, bridge.stages, run_program)
     print("| sheets, 01's format in Python | compared | differing | of these | rests on | lies found |")
     print("|---|---|---|---|---|---|")
     rows = {"bezorika_overlay": entry, "the program overlay": program}
