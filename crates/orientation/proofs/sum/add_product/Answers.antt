@@ -1,26 +1,26 @@
 -- The rows of the two halves of x come to the product, and it fits beside the five that may be there.
-use Prim.Native.Nat.{◌+◌, ◌*◌, ◌^◌, ◌/◌, ◌%◌, ◌<◌}
+use Prim.Native.Nat.{ℕ, ◌≤◌, ◌+◌, ◌*◌, ◌^◌, ◌/◌, ◌%◌, ◌<◌}
 use native.Mathlib.Omega.{arith}
-use Rattle.orientation.specs.Words.{value, weight, words, cap}
+use mathlib.Core.List.{List}
+use Rattle.orientation.specs.Words.{Within, value, weight, words, cap}
 use Rattle.orientation.proofs.Products.{product-sum, product-cap, six-caps, room}
 use Rattle.orientation.proofs.sum.add_product.Goals as goal
 
+-- the two rows have room
+fits : (acc : List ℕ) (x y shift : ℕ) → Within 5 acc → (x < 2 ^ 53) × (y < 2 ^ 53) × (shift ≤ 4090)
+    → value acc + x % 2 ^ 32 * (y * 2 ^ (shift % 32)) * weight (shift / 32) + x / 2 ^ 32 * (y * 2 ^ (shift % 32)) * weight (shift / 32 + 1) < weight words
+fits acc x y shift w b = room _ _ _ _ cap _ w.room (product-sum x y shift) (product-cap b.0 b.1 b.2) six-caps
+
 pub add_row-requires : goal.add_row-requires
 add_row-requires c =
-    let fits : value c.args.acc + c.args.x % 2 ^ 32 * (c.args.y * 2 ^ (c.args.shift % 32)) * weight (c.args.shift / 32)
-    + c.args.x / 2 ^ 32 * (c.args.y * 2 ^ (c.args.shift % 32)) * weight (c.args.shift / 32 + 1)
-    < weight words = room _ _ _ _ cap _ c.requires.within.room (product-sum c.args.x c.args.y c.args.shift) (product-cap c.requires.x_bound.0 c.requires.x_bound.1 c.requires.x_bound.2) six-caps in
     let y = c.spread-t.ensures in
-    record { long = c.requires.within.long; q_bound = (omega arith, omega arith, y.small_three); q_bound_2 = rw y.c_value (omega (arith, fits)) }
+    record { long = c.requires.within.long; q_bound = (omega arith, omega arith, y.small_three); q_bound_2 = rw y.c_value (omega (arith, fits c.args.acc c.args.x c.args.y c.args.shift c.requires.within c.requires.x_bound)) }
 
 pub add_row-requires-2 : goal.add_row-requires-2
 add_row-requires-2 c =
-    let fits : value c.args.acc + c.args.x % 2 ^ 32 * (c.args.y * 2 ^ (c.args.shift % 32)) * weight (c.args.shift / 32)
-    + c.args.x / 2 ^ 32 * (c.args.y * 2 ^ (c.args.shift % 32)) * weight (c.args.shift / 32 + 1)
-    < weight words = room _ _ _ _ cap _ c.requires.within.room (product-sum c.args.x c.args.y c.args.shift) (product-cap c.requires.x_bound.0 c.requires.x_bound.1 c.requires.x_bound.2) six-caps in
     let y = c.spread-t.ensures in
     let low = c.add_row.ensures in
-    record { long = low.long_2; q_bound = (omega arith, omega arith, y.small_three); q_bound_2 = rw y.c_value (omega (arith, rw y.c_value at low.acc_after, fits)) }
+    record { long = low.long_2; q_bound = (omega arith, omega arith, y.small_three); q_bound_2 = rw y.c_value (omega (arith, rw y.c_value at low.acc_after, fits c.args.acc c.args.x c.args.y c.args.shift c.requires.within c.requires.x_bound)) }
 
 pub returns : goal.returns
 returns c =
