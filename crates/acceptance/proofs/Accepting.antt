@@ -1,4 +1,7 @@
 -- With the tally of the list, in a pool within its limit, the tests of the code are those of connection.
+use Rattle.std.proofs.Common.{Err, Ok}
+use Rattle.refusals.specs.declared.Reason.TheVariants as Reason
+use Rattle.refusals.specs.Refusals.{Verdict}
 use mathlib.Core.Path.{◌≡◌, refl, sym, ap, ◌∙◌, fun_ext}
 use mathlib.Core.Bool.{Bool, true, false, not, ◌||◌, or-true, or_comm}
 use mathlib.Core.List.{List, Memᴰ}
@@ -10,15 +13,13 @@ use lib.Dec.{eqb, ltb}
 use lib.ListN.{length}
 use Rattle.events.specs.Binary64.{at_binary64}
 use Rattle.events.specs.Pool.{Pool, size, row_at}
-use Rattle.checks.specs.declared.Check.{Check}
-use Rattle.checks.specs.declared.Check.TheVariants.{Passed, Refused}
 use Rattle.checks.specs.Checks.{max_events, size_refusal, outside, missized, mistaken, and_then, sized}
 use Rattle.checks.proofs.Passed.{sized-passed}
 use Rattle.checks.proofs.Unstruck.{neither, inside}
 use Rattle.contours.specs.Accept.{listed, twice, misplaced, half_listed, told_lowest, list_sized, accept}
 use Rattle.contours.proofs.Accepted.{told_none, listed_in}
 use Rattle.acceptance.specs.Seen.{zeros, seen_at, seen_in, tallied}
-use Rattle.acceptance.specs.Flaws.{number_of, flawed, misplaced_seen, half_seen}
+use Rattle.acceptance.specs.Flaws.{reason_of, flawed, misplaced_seen, half_seen}
 use Rattle.acceptance.specs.OnPool.{accept_pool, told_unfit, told_flaw, told_room, accept_seen, accept_sized}
 use Rattle.acceptance.proofs.Tallying.{listed-seen, twice-seen, tallied-seen, unseen-beyond}
 use Rattle.acceptance.proofs.Chain.{where-passed}
@@ -69,20 +70,20 @@ module _ (p : Pool) (list : List ℕ) (k : ℕ) (few : size p ≤ k) where
     unfolding half_seen half_listed
     half_is r = rw (unseen-is (row_at p r).partner)
 
-  all-within : told_lowest 4 (misplaced at_binary64 (row_at p) (size p) list) list ≡ Passed → (r : ℕ) → Memᴰ r list → r < k
+  all-within : told_lowest Reason.Link (misplaced at_binary64 (row_at p) (size p) list) list ≡ Ok tt → (r : ℕ) → Memᴰ r list → r < k
   unfolding misplaced
   all-within e r m =
-      let own = neither (twice list r) (mistaken at_binary64 (row_at p) (size p) r) (told_none 4 _ list e r m) in
+      let own = neither (twice list r) (mistaken at_binary64 (row_at p) (size p) r) (told_none Reason.Link _ list e r m) in
       omega (arith, mistaken-inside p r own.1)
 
   checks-are : (corners contours holes : ℕ) → accept_seen p tally list corners contours holes ≡ accept_sized p list corners contours holes
-  unfolding accept_seen accept_sized told_flaw number_of flawed
+  unfolding accept_seen accept_sized told_flaw reason_of flawed
   checks-are corners contours holes =
       rw
       (fun_ext misplaced-is)
       (ap
       (and_then (told_unfit p list))
-      (where-passed _ _ _ (λ e. ap (λ test. and_then (told_lowest 8 test list) (told_room p list corners contours holes)) (fun_ext (half_is (all-within e))))))
+      (where-passed _ _ _ (λ e. ap (λ test. and_then (told_lowest Reason.HalfEdge test list) (told_room p list corners contours holes)) (fun_ext (half_is (all-within e))))))
 
 size-most : (p : Pool) → size p ≤ length p.points
 unfolding size
@@ -96,12 +97,12 @@ within-limit points marks sizes e = (sized-passed points marks (rw (← sizes, e
 
 module _ (p : Pool) (list : List ℕ) (corners contours holes : ℕ) where
   -- 1 for the list
-  pub list-refused : max_events < length list → Refused (record { number = 1; place = 0 }) ≡ accept_pool p list corners contours holes
+  pub list-refused : max_events < length list → Err (record { reason = Reason.Size; place = 0 }) ≡ accept_pool p list corners contours holes
   unfolding accept_pool accept list_sized and_then
   list-refused l = rw (lt-ltb max_events (length list) l)
 
   -- the rest by the tally
-  pub by-tally : {none seen : List ℕ} {answer : Check} → (length p.points ≤ length none) × (none ≡ zeros (length none)) → seen ≡ tallied none list
+  pub by-tally : {none seen : List ℕ} {answer : Verdict} → (length p.points ≤ length none) × (none ≡ zeros (length none)) → seen ≡ tallied none list
       → answer ≡ accept_seen p seen list corners contours holes → answer ≡ accept_sized p list corners contours holes
   by-tally {none} z s a =
       a
@@ -110,10 +111,10 @@ module _ (p : Pool) (list : List ℕ) (corners contours holes : ℕ) where
 
   module _ (short : length list ≤ max_events) {t : Bool} (sizes : t ≡ missized (length p.points) (length p.marks)) where
     -- 1 for the pool
-    pub pool-refused : t ≡ true → Refused size_refusal ≡ accept_pool p list corners contours holes
+    pub pool-refused : t ≡ true → Err size_refusal ≡ accept_pool p list corners contours holes
     unfolding accept_pool accept list_sized sized and_then
     pool-refused e = rw (le-ltb max_events (length list) short, ← sizes, e)
 
-    pub accepts : {answer : Check} → t ≡ false → answer ≡ accept_sized p list corners contours holes → answer ≡ accept_pool p list corners contours holes
+    pub accepts : {answer : Verdict} → t ≡ false → answer ≡ accept_sized p list corners contours holes → answer ≡ accept_pool p list corners contours holes
     unfolding accept_pool accept accept_sized told_unfit told_room list_sized sized and_then
     accepts e a = a ∙ rw (le-ltb max_events (length list) short, ← sizes, e)

@@ -1,5 +1,4 @@
 -- Why the checks with a tally are the checks of connection.
-pub mod Backwards
 pub mod Tallying
 pub mod Telling
 pub mod Chain

@@ -2,40 +2,15 @@
 use mathlib.Core.Path.{◌≡◌, refl, sym, ap, ◌∙◌}
 use mathlib.Core.Bool.{Bool, true, false, cond, ◌&&◌, ◌||◌}
 use mathlib.Core.List.{List, [], ◌∷◌}
-use Prim.Native.Nat.{ℕ, zero, suc, ◌-◌, ◌<◌, ◌≤◌}
+use Prim.Native.Nat.{ℕ, zero, suc, ◌<◌, ◌≤◌}
 use native.Mathlib.Omega.{arith}
 use native.Mathlib.Decide.{ℕ_discrete}
 use borrow.Author.Tests.{eq-eqb, ne_eqb, lt-ltb}
 use lib.Dec.{eqb, ltb}
-use lib.ListN.{length, drop, get_or, set, length-set, length-replicate, get_or-replicate, get_or-eq_default}
-use lib.Seq.{drop-length, get_or-set_same, get_or-set_other}
+use lib.ListN.{length, get_or, set, length-set, length-replicate, get_or-replicate, get_or-eq_default}
+use lib.Seq.{get_or-set_same, get_or-set_other}
 use Rattle.contours.specs.Accept.{listed, twice}
 use Rattle.acceptance.specs.Seen.{again, seen_in, zeros, seen_at, noted, tallied}
-use Rattle.acceptance.proofs.Backwards.{one-back, at_front}
-
--- ---- the loop: what is left of the list is noted in front of what was
-
-pub record Tallying (seen₀ list : List ℕ) (i : ℕ) (seen : List ℕ) : Type 0 where
-  pub done : seen ≡ tallied seen₀ (drop i list)
-  pub within : i ≤ length list
-  pub size : length seen ≡ length seen₀
-
-module _ (seen₀ list : List ℕ) where
-  pub none-noted : Tallying seen₀ list (length list) seen₀
-  unfolding tallied
-  none-noted = record { done = rw (drop-length list); within = omega arith; size = refl }
-
-  pub one-noted : (i : ℕ) (seen : List ℕ) {seen' : List ℕ} → 0 < i → Tallying seen₀ list i seen → seen' ≡ noted seen (get_or list (i - 1) 0) → Tallying seen₀ list (i - 1) seen'
-  unfolding tallied noted
-  one-noted i seen h t e =
-      record {
-        done = e ∙ rw (t.done, one-back list i h t.within);
-        within = omega (arith, t.within);
-        size = ap length e ∙ length-set seen _ _ ∙ t.size;
-      }
-
-  pub all_noted : (i : ℕ) (seen : List ℕ) → i ≤ 0 → Tallying seen₀ list i seen → seen ≡ tallied seen₀ list
-  all_noted i seen h t = t.done ∙ ap (tallied seen₀) (at_front list i h)
 
 -- ---- what is seen in a list
 

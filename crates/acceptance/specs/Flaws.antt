@@ -1,4 +1,6 @@
 -- The tests of a listed record, where an array tells how often each record is listed.
+use Rattle.refusals.specs.declared.Reason.{Reason}
+use Rattle.refusals.specs.declared.Reason.TheVariants as Reason
 use Rattle.std.specs.Prelude.{Bool, ◌&&◌, ◌||◌, List, ℕ, eqb, ltb}
 use Rattle.events.specs.Binary64.{at_binary64}
 use Rattle.events.specs.Pool.{Pool, row_at}
@@ -10,9 +12,9 @@ use Rattle.acceptance.specs.declared.flaws.Flaw.TheVariants.{Misplaced, HalfList
 use Rattle.acceptance.specs.Seen.{seen_at}
 
 -- the number of the refusal
-unfoldable pub number_of : Flaw → ℕ
-number_of Misplaced = 4
-number_of HalfListed = 8
+unfoldable pub reason_of : Flaw → Reason
+reason_of Misplaced = Reason.Link
+reason_of HalfListed = Reason.HalfEdge
 
 unfoldable pub misplaced_seen : Pool → List ℕ → ℕ → Bool
 misplaced_seen p seen r = on p (mistaken at_binary64) r || ltb 1 (seen_at seen r)

@@ -1,9 +1,9 @@
 -- A check that tells the lowest record, with one more record looked at.
-use Rattle.std.specs.Prelude.{Bool, true, false, ℕ, min}
-use Rattle.checks.specs.declared.Check.{Check}
-use Rattle.checks.specs.declared.Check.TheVariants.{Passed, Refused}
+use Rattle.refusals.specs.declared.Reason.{Reason}
+use Rattle.std.specs.Prelude.{Bool, true, false, ℕ, min, Err, Ok}
+use Rattle.refusals.specs.Refusals.{Verdict}
 
-unfoldable pub told_also : Check → (number r : ℕ) → Bool → Check
-told_also told number r false = told
-told_also Passed number r true = Refused (record { number = number; place = r })
-told_also (Refused least) number r true = Refused (record { number = number; place = min r least.place })
+unfoldable pub told_also : Verdict → Reason → (r : ℕ) → Bool → Verdict
+told_also told reason r false = told
+told_also (Ok _) reason r true = Err (record { reason = reason; place = r })
+told_also (Err least) reason r true = Err (record { reason = reason; place = min r least.place })

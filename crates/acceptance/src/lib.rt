@@ -3,16 +3,15 @@
 
 ghost use Rattle.std.specs.Prelude.{◌≡◌, ◌≤◌, length};
 ghost use Rattle.events.specs.Pool.{pool};
-ghost use Rattle.checks.specs.Checks.{max_events, few_events};
+ghost use Rattle.checks.specs.Checks.{max_events};
 ghost use Rattle.acceptance.specs.Seen.{zeros};
 ghost use Rattle.acceptance.specs.OnPool.{accept_pool, is_refused, accept_seen, accept_sized};
 
-use checks::Check;
 use checks::sizes::{FEW, MAX_EVENTS, POOL_PLACE, pool_refused};
 use fit::check_fit;
 use flaws::Flaw;
 use lowest::check_flaw;
-use refusals::Refusal;
+use refusals::{Reason, Refusal};
 use room::check_room;
 use seen::tally;
 
@@ -25,12 +24,12 @@ mod seen;
 // Where refusal 1 tells of the list.
 pub const LIST_PLACE: u64 = 0;
 
-fn is_refused(check: Check) -> bool
+fn is_refused(check: Result<(), Refusal>) -> bool
     ensures { result ≡ is_refused check }
 {
     match check {
-        Check::Passed => false,
-        Check::Refused(_) => true,
+        Ok(()) => false,
+        Err(_) => true,
     }
 }
 
@@ -43,7 +42,7 @@ fn check_list(
     corners: usize,
     contours: usize,
     holes: usize,
-) -> Check
+) -> Result<(), Refusal>
     ensures { result ≡ accept_seen (pool points.now marks.now) seen.now list.now corners contours holes }
 {
     let unfit = check_fit(points, marks, list);
@@ -70,7 +69,7 @@ fn check_in(
     contours: usize,
     holes: usize,
     seen: &mut [u32],
-) -> Check
+) -> Result<(), Refusal>
     requires { (length points.now ≤ length seen.old) × (seen.old ≡ zeros (length seen.old)) }
     ensures { result ≡ accept_sized (pool points.now marks.now) list.now corners contours holes }
 {
@@ -78,35 +77,19 @@ fn check_in(
     check_list(points, marks, seen, list, corners, contours, holes)
 }
 
-// With places for a small pool.
-fn check_few(
+// With a tally of N places: as many as the pool has at least, and as any has at most.
+fn check_of<const N: usize>(
     points: &[[u64; 2]],
     marks: &[[u32; 12]],
     list: &[u32],
     corners: usize,
     contours: usize,
     holes: usize,
-) -> Check
-    requires { length points.now ≤ few_events }
+) -> Result<(), Refusal>
+    requires { (length points.now ≤ N) × (N ≤ max_events) }
     ensures { result ≡ accept_sized (pool points.now marks.now) list.now corners contours holes }
 {
-    let mut seen = [0u32; FEW];
-    check_in(points, marks, list, corners, contours, holes, &mut seen)
-}
-
-// With places for any pool.
-fn check_many(
-    points: &[[u64; 2]],
-    marks: &[[u32; 12]],
-    list: &[u32],
-    corners: usize,
-    contours: usize,
-    holes: usize,
-) -> Check
-    requires { length points.now ≤ max_events }
-    ensures { result ≡ accept_sized (pool points.now marks.now) list.now corners contours holes }
-{
-    let mut seen = [0u32; MAX_EVENTS];
+    let mut seen = [0u32; N];
     check_in(points, marks, list, corners, contours, holes, &mut seen)
 }
 
@@ -118,23 +101,23 @@ pub fn accept(
     corners: usize,
     contours: usize,
     holes: usize,
-) -> Check
+) -> Result<(), Refusal>
     ensures { result ≡ accept_pool (pool points.now marks.now) list.now corners contours holes }
 {
     if list.len() > MAX_EVENTS {
-        return Check::Refused(Refusal {
-            number: refusals::SIZE,
+        return Err(Refusal {
+            reason: Reason::Size,
             place: LIST_PLACE,
         });
     }
     if pool_refused(points, marks) {
-        return Check::Refused(Refusal {
-            number: refusals::SIZE,
+        return Err(Refusal {
+            reason: Reason::Size,
             place: POOL_PLACE,
         });
     }
     if points.len() <= FEW {
-        return check_few(points, marks, list, corners, contours, holes);
+        return check_of::<FEW>(points, marks, list, corners, contours, holes);
     }
-    check_many(points, marks, list, corners, contours, holes)
+    check_of::<MAX_EVENTS>(points, marks, list, corners, contours, holes)
 }

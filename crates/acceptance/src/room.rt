@@ -4,22 +4,27 @@ ghost use Rattle.events.specs.Pool.{pool};
 ghost use Rattle.contours.specs.Accept.{roomy};
 ghost use Rattle.acceptance.specs.OnPool.{room, room_refused, told_room};
 
-use checks::Check;
-use refusals::Refusal;
+use refusals::{Reason, Refusal};
 use results::{count_edges, count_events};
 
 // Told with the places wanted.
-fn room_refused(wanted: usize) -> Check
+fn room_refused(wanted: usize) -> Result<(), Refusal>
     ensures { result ≡ room_refused wanted }
 {
-    Check::Refused(Refusal {
-        number: refusals::ROOM,
+    Err(Refusal {
+        reason: Reason::Room,
         place: wanted as u64,
     })
 }
 
 // A corner for each event, a contour and a hole for each edge.
-fn check_places(events: usize, edges: usize, corners: usize, contours: usize, holes: usize) -> Check
+fn check_places(
+    events: usize,
+    edges: usize,
+    corners: usize,
+    contours: usize,
+    holes: usize,
+) -> Result<(), Refusal>
     ensures { result ≡ roomy (room corners contours holes) events edges }
 {
     if corners < events {
@@ -31,7 +36,7 @@ fn check_places(events: usize, edges: usize, corners: usize, contours: usize, ho
     if holes < edges {
         return room_refused(edges);
     }
-    Check::Passed
+    Ok(())
 }
 
 // For the result events and the result edges of a list.
@@ -42,7 +47,7 @@ pub fn check_room(
     corners: usize,
     contours: usize,
     holes: usize,
-) -> Check
+) -> Result<(), Refusal>
     ensures { result ≡ told_room (pool points.now marks.now) list.now corners contours holes }
 {
     let events = count_events(points, marks, list);

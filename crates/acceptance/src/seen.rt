@@ -2,6 +2,7 @@
 ghost use Rattle.std.specs.Prelude.{◌≡◌};
 ghost use Rattle.acceptance.specs.Seen.{again, seen_at, noted, tallied};
 
+#[tactic(auto, unfolding(crate::specs::Seen::seen_at))]
 pub fn seen_at(seen: &[u32], r: u32) -> u32
     ensures { result ≡ seen_at seen.now r }
 {
@@ -12,6 +13,7 @@ pub fn seen_at(seen: &[u32], r: u32) -> u32
     0
 }
 
+#[tactic(auto, unfolding(crate::specs::Seen::again))]
 fn once_more(n: u32) -> u32
     ensures { result ≡ again n }
 {
@@ -22,6 +24,7 @@ fn once_more(n: u32) -> u32
 }
 
 // A record beyond the places is not noted.
+#[tactic(auto, unfolding(crate::specs::Seen::noted, crate::specs::Seen::seen_at))]
 fn note(seen: &mut [u32], r: u32)
     ensures { seen.new ≡ noted seen.old r }
 {
@@ -32,12 +35,11 @@ fn note(seen: &mut [u32], r: u32)
 }
 
 // Every record of the list noted.
+#[tactic(auto, using(results::proofs::Backwards::one_back), unfolding(crate::specs::Seen::tallied))]
 pub fn tally(seen: &mut [u32], list: &[u32])
     ensures { seen.new ≡ tallied seen.old list.now }
 {
-    let mut i = list.len();
-    while i > 0 {
-        i -= 1;
-        note(seen, list[i]);
+    for &r in list.iter().rev() {
+        note(seen, r);
     }
 }

@@ -3,7 +3,7 @@
 
 ghost use Rattle.std.specs.Prelude.{◌≤◌, length, IfOk};
 
-use arranging::{Outcome, arrange};
+use arranging::arrange;
 use printing::print_refusal;
 use std::io::{self, Read};
 
@@ -40,8 +40,8 @@ fn main(rt: HostRuntime) -> io::Result<()> {
     let mut sheet = [0u8; ROOM];
     let n = read_full(&mut rt.reader(), &mut sheet)?;
     match arrange(&mut sheet[..n]) {
-        Outcome::Done => write(&rt, &sheet, n),
-        Outcome::Refused(refusal) => {
+        Ok(()) => write(&rt, &sheet, n),
+        Err(refusal) => {
             let told = print_refusal(refusal, &mut sheet);
             write(&rt, &sheet, told)
         }

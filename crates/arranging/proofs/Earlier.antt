@@ -1,6 +1,6 @@
 -- Which of two corners comes first, by comparing their numbers one after the other.
 use mathlib.Core.Path.{◌≡◌, sym, ◌∙◌}
-use mathlib.Core.Bool.{true, false}
+use mathlib.Core.Bool.{false}
 use mathlib.Core.List.{[], ◌∷◌}
 use Prim.Native.Nat.{ℕ, ◌≤◌, ◌<◌}
 use native.Mathlib.Omega.{arith}
@@ -10,9 +10,6 @@ use Rattle.sorting.specs.Rows.{at_most}
 use Rattle.sorting.proofs.Order.{less, more, same, Three, Less, Same, More, three, reflexive}
 
 module _ (px py qx qy : ℕ) where
-  pub first-less : px < qx → true ≡ at_most (px ∷ py ∷ []) (qx ∷ qy ∷ [])
-  first-less h = sym (less px qx (py ∷ []) (qy ∷ []) h)
-
   pub first_more : qx < px → false ≡ at_most (px ∷ py ∷ []) (qx ∷ qy ∷ [])
   first_more h = sym (more px qx (py ∷ []) (qy ∷ []) h)
 

@@ -9,7 +9,6 @@ pub mod Sheets
 pub mod Promised
 pub mod Earlier
 pub mod KeyRows
-pub mod Each
 pub mod RowsInOrder
 pub mod Chosen
 pub mod Rowed

@@ -1,4 +1,6 @@
 -- What is promised of arranging.
+use Rattle.refusals.specs.declared.Reason.{Reason}
+use Rattle.std.proofs.Common.{Err}
 use mathlib.Core.Path.{◌≡◌, refl, sym, ap, ◌∙◌}
 use mathlib.Core.List.{List}
 use Prim.Native.Nat.{ℕ}
@@ -8,7 +10,6 @@ use Rattle.refusals.specs.declared.Refusal.{Refusal}
 use Rattle.sheet.specs.Sheet.{Sheet, written}
 use Rattle.sheet.specs.Reading.{Reading, Accepted, Refused, read_sheet}
 use Rattle.sheet.proofs.Sheets.{accepts, describes}
-use Rattle.arranging.specs.declared.Outcome.TheVariants.{Refused as NotArranged}
 use Rattle.arranging.specs.Arranged.{arranged}
 use Rattle.arranging.specs.Arrange.{After, left, leave, arrange, arranged_reading, Arranges}
 use Rattle.arranging.specs.Drawing.{SameDrawing}
@@ -37,7 +38,7 @@ reads b = go (read_sheet b) refl
   where
     go : (r : Reading) → read_sheet b ≡ r → read_sheet (leave r b).bytes ≡ arranged_reading r
     go (Accepted s) e = reads-arranged b s e
-    go (Refused number line) e = e
+    go (Refused reason line) e = e
 
 twice : (b : List ℕ) → arrange (arrange b).bytes ≡ arrange b
 unfolding arrange leave
@@ -46,7 +47,7 @@ twice b = go (read_sheet b) refl
     go : (r : Reading) → read_sheet b ≡ r → arrange (leave r b).bytes ≡ leave r b
     go (Accepted s) e =
         let t = one_text b (written (arranged s)) s (arranged s) e (reads-arranged b s e) (arranged-drawing s) in rw e at (sym t)
-    go (Refused number line) e = rw e
+    go (Refused reason line) e = rw e
 
 -- in place: as many bytes
 as_many : (b : List ℕ) → length (arrange b).bytes ≡ length b
@@ -55,19 +56,19 @@ as_many b = go (read_sheet b) refl
   where
     go : (r : Reading) → read_sheet b ≡ r → length (leave r b).bytes ≡ length b
     go (Accepted s) e = same_length s ∙ ap length (sym (describes b s e).0)
-    go (Refused number line) e = refl
+    go (Refused reason line) e = refl
 
-refused : (b : List ℕ) (number line : ℕ) → read_sheet b ≡ Refused number line → arrange b ≡ left (NotArranged (record { number = number; place = line })) b
+refused : (b : List ℕ) (reason : Reason) (line : ℕ) → read_sheet b ≡ Refused reason line → arrange b ≡ left (Err (record { reason = reason; place = line })) b
 unfolding arrange leave
-refused b number line e = rw e
+refused b reason line e = rw e
 
-only_so : (b : List ℕ) (r : Refusal) → (arrange b).answer ≡ NotArranged r → read_sheet b ≡ Refused r.number r.place
+only_so : (b : List ℕ) (r : Refusal) → (arrange b).answer ≡ Err r → read_sheet b ≡ Refused r.reason r.place
 unfolding arrange leave
 only_so b r e = go (read_sheet b) e
   where
-    go : (x : Reading) → (leave x b).answer ≡ NotArranged r → x ≡ Refused r.number r.place
+    go : (x : Reading) → (leave x b).answer ≡ Err r → x ≡ Refused r.reason r.place
     go (Accepted s) f = let z : ◌≡◌ {A = ℕ} 0 1 = cc in absurd (omega arith)
-    go (Refused number line) f = let g : record { number = number; place = line } ≡ r = cc in rw (← g)
+    go (Refused reason line) f = let g : record { reason = reason; place = line } ≡ r = cc in rw (← g)
 
 pub arranges : Arranges
 arranges =

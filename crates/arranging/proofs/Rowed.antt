@@ -1,4 +1,5 @@
 -- What `read_rows` told and left: the sheet's rows in the first places, or why there is none; and what is then arranged.
+use Rattle.std.proofs.Common.{Err, Ok, Result}
 use mathlib.Core.Path.{◌≡◌, refl, sym, ap, ◌∙◌}
 use mathlib.Core.List.{List, map, append-nil}
 use Prim.Native.Nat.{ℕ, ◌≤◌, ◌<◌}
@@ -8,8 +9,8 @@ use lib.Seq.{sets, length-sets, length-take-le}
 use Rattle.lists.proofs.Fronts.{sets-front, first-are}
 use Rattle.refusals.specs.declared.Refusal.{Refusal}
 use Rattle.class.specs.declared.Operation.{Operation}
-use Rattle.sheet.specs.declared.Told.{Told}
-use Rattle.sheet.specs.declared.Told.TheVariants.{Read, Refused as NotRead}
+use Rattle.sheet.specs.declared.Counts.{Counts}
+use Rattle.refusals.specs.declared.Refusal.{Refusal}
 use Rattle.sheet.specs.Sheet.{Sheet, written}
 use Rattle.sheet.specs.Reading.{Reading, Accepted, read_sheet}
 use Rattle.sheet.specs.Reading as R
@@ -18,31 +19,30 @@ use Rattle.sheet.specs.Stored as Stored
 use Rattle.sheet.specs.Shown.{told}
 use Rattle.sheet.proofs.Sheets.{describes}
 use Rattle.sheet.proofs.Copies.{Was, was-refused, was}
-use Rattle.arranging.specs.declared.Outcome.TheVariants.{Done, Refused}
 use Rattle.arranging.specs.Arranged.{arranged}
 use Rattle.arranging.specs.Arrange.{left, leave, arrange, arranged_reading}
 use Rattle.arranging.specs.Steps.{sheet_in_order, stored_in_order}
 use Rattle.arranging.proofs.Sheets.{same_length}
 use Rattle.arranging.proofs.Chosen.{sheet-in-order, stored-in-order}
 
-module _ (b : List ℕ) (x : Told) (s s₀ k k₀ : List (List ℕ)) (h : left_rows x s k ≡ leave_rows (read_sheet b) s₀ k₀) where
+module _ (b : List ℕ) (x : Result Counts Refusal) (s s₀ k k₀ : List (List ℕ)) (h : left_rows x s k ≡ leave_rows (read_sheet b) s₀ k₀) where
   answered : (r : Reading) → (leave_rows r s₀ k₀).answer ≡ told r
   unfolding leave_rows
   answered (Accepted t) = refl
-  answered (R.Refused number line) = refl
+  answered (R.Refused reason line) = refl
 
   told_is : x ≡ told (read_sheet b)
   told_is = ap (λ (y : AfterRows). y.answer) h ∙ answered (read_sheet b)
 
-  pub not-arranged : (q : Refusal) → x ≡ NotRead q → left (Refused q) b ≡ arrange b
+  pub not-arranged : (q : Refusal) → x ≡ Err q → left (Err q) b ≡ arrange b
   unfolding arrange leave
   not-arranged q e = rw (was-refused b x told_is q e)
 
-  pub not-read : (q : Refusal) → x ≡ NotRead q → (ends labels : List (List ℕ)) → Stored.left (NotRead q) ends labels ≡ Stored.leave (arranged_reading (read_sheet b)) ends labels
+  pub not-read : (q : Refusal) → x ≡ Err q → (ends labels : List (List ℕ)) → Stored.left (Err q) ends labels ≡ Stored.leave (arranged_reading (read_sheet b)) ends labels
   unfolding arranged_reading Stored.leave
   not-read q e ends labels = rw (was-refused b x told_is q e)
 
-  module _ (o : Operation) (a c : ℕ) (e : x ≡ Read o a c) (m : length s₀ ≡ 256) (n : length k₀ ≡ 256) where
+  module _ (o : Operation) (a c : ℕ) (e : x ≡ Ok (record { operation = o; subject = a; clip = c })) (m : length s₀ ≡ 256) (n : length k₀ ≡ 256) where
     -- what was read
     it : Was b o a c
     it = was b x told_is o a c e
@@ -92,7 +92,7 @@ module _ (b : List ℕ) (x : Told) (s s₀ k k₀ : List (List ℕ)) (h : left_r
         ∙ ap (λ (l : List (List ℕ)). make t.operation l (take c k)) subject-is
         ∙ ap (make t.operation (map row_of t.subject)) clip-is
 
-    pub is-arranged : (out : List ℕ) → out ≡ sets b 0 (written (sheet_in_order o (take a s) (take c k))) → left Done out ≡ arrange b
+    pub is-arranged : (out : List ℕ) → out ≡ sets b 0 (written (sheet_in_order o (take a s) (take c k))) → left (Ok tt) out ≡ arrange b
     unfolding arrange leave
     is-arranged out g =
         let z : sheet_in_order o (take a s) (take c k) ≡ arranged t = made sheet_in_order ∙ sheet-in-order t.operation t.subject t.clip it.fits.subject it.fits.clip in

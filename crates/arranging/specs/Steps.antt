@@ -1,8 +1,7 @@
 -- What private parts do with rows of words: contracts that nobody need believe.
-use Rattle.std.specs.Prelude.{Bool, not, cond, ◌&&◌, List, [], ◌∷◌, map, ℕ, ◌-◌, ltb, length, get_or}
+use Rattle.std.specs.Prelude.{Bool, not, cond, ◌&&◌, List, [], ◌∷◌, map, ℕ, ◌-◌, ltb, length, get_or, Ok}
 use Rattle.std.proofs.lemmas.List.Edits.{sets}
 use Rattle.class.specs.declared.Operation.{Operation}
-use Rattle.sheet.specs.declared.Told.TheVariants.{Read}
 use Rattle.sheet.specs.Sheet.{Sheet}
 use Rattle.sheet.specs.Stored.{edge_of_row, ends_of_row, labels_of_row, After, left}
 use Rattle.printing.specs.Rows.{sheet_of_rows}
@@ -44,7 +43,7 @@ sheet_in_order o subject clip =
 -- two layers' rows stored in the form that loading takes
 unfoldable pub stored : Operation → List (List ℕ) → List (List ℕ) → List (List ℕ) → List (List ℕ) → After
 stored o a c ends labels =
-    left (Read o (length a) (length c)) (sets (sets ends 0 (map ends_of_row a)) (length a) (map ends_of_row c))
+    left (Ok (record { operation = o; subject = length a; clip = length c })) (sets (sets ends 0 (map ends_of_row a)) (length a) (map ends_of_row c))
     (sets (sets labels 0 (map (labels_of_row 1) a)) (length a) (map (labels_of_row 0) c))
 
 unfoldable pub stored_in_order : Operation → List (List ℕ) → List (List ℕ) → List (List ℕ) → List (List ℕ) → After

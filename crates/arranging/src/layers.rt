@@ -8,6 +8,7 @@ use class::Operation;
 use sorting::{rows_at_most, sort};
 
 // Whether the operation does not ask which layer is which.
+#[tactic(auto, unfolding(crate::specs::Arranged::symmetric))]
 fn is_symmetric(operation: Operation) -> bool
     ensures { result ≡ symmetric operation }
 {
@@ -20,6 +21,7 @@ fn is_symmetric(operation: Operation) -> bool
 }
 
 // What the edges of a layer are put in order by, in order.
+#[tactic(auto, unfolding(crate::specs::Steps::keys_in_order))]
 fn sort_layer(rows: &mut [[u64; 5]])
     ensures { rows.new ≡ keys_in_order rows.old }
 {

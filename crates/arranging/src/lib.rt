@@ -5,7 +5,7 @@ mod layers;
 mod rows;
 mod words;
 
-ghost use Rattle.std.specs.Prelude.{◌≡◌, ◌<◌, length};
+ghost use Rattle.std.specs.Prelude.{◌≡◌, ◌<◌, length, Ok};
 ghost use Rattle.std.proofs.lemmas.List.Edits.{sets};
 ghost use Rattle.sheet.specs.Sheet.{written};
 ghost use Rattle.sheet.specs.Reading.{read_sheet};
@@ -19,16 +19,10 @@ use layers::arrange_layers;
 use printing::sheets::print_sheet;
 use refusals::Refusal;
 use sheet::stores::store_rows;
-use sheet::{Told, read_rows};
+use sheet::{Counts, read_rows};
 
 // `sheet::MAX_EDGES`, as an array is declared.
 const EDGES: usize = 256;
-
-#[derive(Clone, Copy)]
-pub enum Outcome {
-    Done,
-    Refused(Refusal),
-}
 
 // Prints the arranged sheet of two layers' rows from the first byte on.
 fn print_arranged(
@@ -47,23 +41,19 @@ fn print_arranged(
 }
 
 // The arranged sheet has as many bytes, so that nothing but the sheet itself can be refused.
-pub fn arrange(bytes: &mut [u8]) -> Outcome
+pub fn arrange(bytes: &mut [u8]) -> Result<(), Refusal>
     ensures { left result bytes.new ≡ Spec.arrange bytes.old }
 {
     let mut subject = [[0u64; 5]; EDGES];
     let mut clip = [[0u64; 5]; EDGES];
-    match read_rows(bytes, &mut subject, &mut clip) {
-        Told::Refused(refusal) => Outcome::Refused(refusal),
-        Told::Read(operation, a, c) => {
-            print_arranged(
-                operation,
-                &mut subject[..a as usize],
-                &mut clip[..c as usize],
-                bytes,
-            );
-            Outcome::Done
-        }
-    }
+    let counts = read_rows(bytes, &mut subject, &mut clip)?;
+    print_arranged(
+        counts.operation,
+        &mut subject[..counts.subject as usize],
+        &mut clip[..counts.clip as usize],
+        bytes,
+    );
+    Ok(())
 }
 
 // Two layers' rows in the form that loading takes.
@@ -73,13 +63,17 @@ fn store_layers(
     clip: &[[u64; 5]],
     ends: &mut [[u64; 4]],
     labels: &mut [[u32; 2]],
-) -> Told
+) -> Counts
     requires { (length subject.now < 4294967296) × (length clip.now < 4294967296) }
-    ensures { Stored.left result ends.new labels.new ≡ stored operation subject.now clip.now ends.old labels.old }
+    ensures { Stored.left (Ok result) ends.new labels.new ≡ stored operation subject.now clip.now ends.old labels.old }
 {
     store_rows(subject, 1, 0, ends, labels);
     store_rows(clip, 0, subject.len(), ends, labels);
-    Told::Read(operation, subject.len() as u32, clip.len() as u32)
+    Counts {
+        operation,
+        subject: subject.len() as u32,
+        clip: clip.len() as u32,
+    }
 }
 
 // .. of the arranged sheet.
@@ -89,9 +83,9 @@ fn store_arranged(
     clip: &mut [[u64; 5]],
     ends: &mut [[u64; 4]],
     labels: &mut [[u32; 2]],
-) -> Told
+) -> Counts
     requires { (length subject.old < 4294967296) × (length clip.old < 4294967296) }
-    ensures { Stored.left result ends.new labels.new ≡ stored_in_order operation subject.old clip.old ends.old labels.old }
+    ensures { Stored.left (Ok result) ends.new labels.new ≡ stored_in_order operation subject.old clip.old ends.old labels.old }
 {
     if arrange_layers(operation, subject, clip) {
         return store_layers(operation, clip, subject, ends, labels);
@@ -100,19 +94,21 @@ fn store_arranged(
 }
 
 // The edges of the arranged sheet in the form that loading takes, without its bytes.
-pub fn read_arranged(bytes: &[u8], ends: &mut [[u64; 4]], labels: &mut [[u32; 2]]) -> Told
+pub fn read_arranged(
+    bytes: &[u8],
+    ends: &mut [[u64; 4]],
+    labels: &mut [[u32; 2]],
+) -> Result<Counts, Refusal>
     ensures { Stored.left result ends.new labels.new ≡ Stored.leave (arranged_reading (read_sheet bytes.now)) ends.old labels.old }
 {
     let mut subject = [[0u64; 5]; EDGES];
     let mut clip = [[0u64; 5]; EDGES];
-    match read_rows(bytes, &mut subject, &mut clip) {
-        Told::Refused(refusal) => Told::Refused(refusal),
-        Told::Read(operation, a, c) => store_arranged(
-            operation,
-            &mut subject[..a as usize],
-            &mut clip[..c as usize],
-            ends,
-            labels,
-        ),
-    }
+    let counts = read_rows(bytes, &mut subject, &mut clip)?;
+    Ok(store_arranged(
+        counts.operation,
+        &mut subject[..counts.subject as usize],
+        &mut clip[..counts.clip as usize],
+        ends,
+        labels,
+    ))
 }

@@ -7,16 +7,11 @@ use crate::words::{rank, word_of};
 use numbers::words::unsigned_word;
 
 // Whether the first of two corners comes first, each by its places.
+#[tactic(auto, using(sorting::proofs::Compared::at_most_lem))]
 fn is_earlier(px: u64, py: u64, qx: u64, qy: u64) -> bool
     ensures { result ≡ at_most (px ∷ py ∷ []) (qx ∷ qy ∷ []) }
 {
-    if px < qx {
-        return true;
-    }
-    if qx < px {
-        return false;
-    }
-    py <= qy
+    [px, py] <= [qx, qy]
 }
 
 // An edge without minus zeros and from its earlier end, by the places of its numbers.
@@ -34,6 +29,7 @@ fn key_of(row: [u64; 5]) -> [u64; 5]
 }
 
 // The edge of such a row.
+#[tactic(auto, unfolding(crate::specs::Steps::row_of_key))]
 fn row_of(key: [u64; 5]) -> [u64; 5]
     ensures { result ≡ row_of_key key }
 {
@@ -49,19 +45,15 @@ fn row_of(key: [u64; 5]) -> [u64; 5]
 pub fn to_keys(rows: &mut [[u64; 5]])
     ensures { rows.new ≡ map key_of_row rows.old }
 {
-    let mut i = 0;
-    while i < rows.len() {
-        rows[i] = key_of(rows[i]);
-        i += 1;
+    for row in rows.iter_mut() {
+        *row = key_of(*row);
     }
 }
 
 pub fn to_rows(keys: &mut [[u64; 5]])
     ensures { keys.new ≡ map row_of_key keys.old }
 {
-    let mut i = 0;
-    while i < keys.len() {
-        keys[i] = row_of(keys[i]);
-        i += 1;
+    for key in keys.iter_mut() {
+        *key = row_of(*key);
     }
 }

@@ -6,6 +6,7 @@ ghost use Rattle.arranging.specs.Steps.{word_of};
 // The least word that has the sign bit.
 const SIGN_BIT: u64 = 0x8000_0000_0000_0000;
 
+#[tactic(auto, unfolding(crate::specs::Order::rank))]
 pub fn rank(w: u64) -> u64
     ensures { result ≡ Order.rank w }
 {
@@ -16,6 +17,7 @@ pub fn rank(w: u64) -> u64
 }
 
 // The number at a place.
+#[tactic(auto, unfolding(crate::specs::Steps::word_of))]
 pub fn word_of(rank: u64) -> u64
     ensures { result ≡ word_of rank }
 {

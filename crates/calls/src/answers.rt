@@ -42,7 +42,7 @@ pub fn end(out: &mut [u8], from: usize, e: Event) -> usize {
 
 pub fn refused(out: &mut [u8], from: usize, refusal: Refusal) -> usize {
     let at = word(out, from, b"refused ");
-    let at = decimal(out, at, refusal.number);
+    let at = decimal(out, at, u64::from(refusal.reason));
     let at = word(out, at, b" at ");
     decimal(out, at, refusal.place)
 }

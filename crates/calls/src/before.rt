@@ -2,7 +2,8 @@
 use crate::pairs::Edge;
 use crate::{answers, pairs, words};
 use numbers::Point;
-use records::{Before, is_before};
+use records::is_before;
+use refusals::Refusal;
 
 fn event(
     line: &[u8],
@@ -27,10 +28,10 @@ fn event(
     after
 }
 
-fn second(out: &mut [u8], from: usize, first: bool, told: Before) -> usize {
+fn second(out: &mut [u8], from: usize, first: bool, told: Result<bool, Refusal>) -> usize {
     match told {
-        Before::Refused(refusal) => answers::refused(out, from, refusal),
-        Before::Told(other) => {
+        Err(refusal) => answers::refused(out, from, refusal),
+        Ok(other) => {
             let at = answers::flag(out, from, first);
             let at = answers::word(out, at, b" ");
             answers::flag(out, at, other)
@@ -46,7 +47,7 @@ pub fn answer(line: &[u8], from: usize, out: &mut [u8], at: usize) -> usize {
         return answers::malformed(out, at);
     }
     match is_before(&points, &marks, 0, 2) {
-        Before::Refused(refusal) => answers::refused(out, at, refusal),
-        Before::Told(first) => second(out, at, first, is_before(&points, &marks, 2, 0)),
+        Err(refusal) => answers::refused(out, at, refusal),
+        Ok(first) => second(out, at, first, is_before(&points, &marks, 2, 0)),
     }
 }

@@ -1,6 +1,6 @@
 // cross AX AY BX BY CX CY DX DY: none, point X Y, overlap X Y X Y or lost. ordered-cross: the same in the ordered mode.
 use crate::{answers, words};
-use crossing::{Crossed, LineIntersection, crossing};
+use crossing::{LineIntersection, crossing};
 use numbers::Coordinate;
 use numbers::words::{number, word};
 
@@ -43,7 +43,7 @@ pub fn answer(line: &[u8], from: usize, mode: u32, out: &mut [u8], at: usize) ->
         number(n[6]),
         number(n[7]),
     ) {
-        Crossed::Refused(refusal) => answers::refused(out, at, refusal),
-        Crossed::Found(intersection) => found(out, at, intersection),
+        Err(refusal) => answers::refused(out, at, refusal),
+        Ok(intersection) => found(out, at, intersection),
     }
 }

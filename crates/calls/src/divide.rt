@@ -2,7 +2,7 @@
 // 0 and 1 of a pool that has room for two more.
 use crate::pairs::Edge;
 use crate::{answers, pairs, words};
-use division::{Divided, Division};
+use division::Divided;
 use events::Event;
 use events::pool::read_event;
 use numbers::Point;
@@ -39,8 +39,8 @@ fn divided(
     at: usize,
 ) -> usize {
     match divide_segment(points, marks, USED, 0, cut) {
-        Division::Refused(refusal) => answers::refused(out, at, refusal),
-        Division::Done(d) => told(points, marks, d, out, at),
+        Err(refusal) => answers::refused(out, at, refusal),
+        Ok(d) => told(points, marks, d, out, at),
     }
 }
 

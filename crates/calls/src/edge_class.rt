@@ -4,9 +4,9 @@ use crate::pairs::Edge;
 use crate::{answers, kinds, pairs, words};
 use class::Operation;
 use events::pool::{enter_event, read_event};
-use events::{EdgeType, Event, Link, ResultTransition};
+use events::{EdgeType, Event, ResultTransition};
 use numbers::Point;
-use records::{Computed, compute_fields};
+use records::compute_fields;
 
 // Coordinates by their bits.
 const ZERO: u64 = 0;
@@ -70,7 +70,7 @@ fn store_edge(
         ResultTransition::None,
         false,
         false,
-        Link::To(STALE),
+        Some(STALE),
     );
     enter_event(points, marks, EDGE, stale);
 }
@@ -80,15 +80,12 @@ fn lower(line: &[u8], from: usize, points: &mut [[u64; 2]], marks: &mut [[u32; 1
     let mut flags = [false; 4];
     let mut linked = [false; 1];
     let at = words::flags(line, from, &mut flags);
-    let read = kinds::transition(line, at);
-    let after = words::flags(line, read.after, &mut linked);
-    let x = if flags[1] { ZERO } else { ONE };
-    let below = if linked[0] {
-        Link::To(BELOW)
-    } else {
-        Link::None
+    let Some((transition, at)) = kinds::transition(line, at) else {
+        return words::MISSING;
     };
-    let transition = read.transition;
+    let after = words::flags(line, at, &mut linked);
+    let x = if flags[1] { ZERO } else { ONE };
+    let below = if linked[0] { Some(BELOW) } else { None };
     store(points, marks, LOWER, 3, MINUS_ONE, x, flags[0]);
     let e = read_event(points, marks, LOWER);
     enter_event(
@@ -108,10 +105,10 @@ fn transition(out: &mut [u8], at: usize, transition: ResultTransition) -> usize 
     }
 }
 
-fn link(out: &mut [u8], at: usize, below: Link) -> usize {
+fn link(out: &mut [u8], at: usize, below: Option<u32>) -> usize {
     match below {
-        Link::None => answers::word(out, at, b"-"),
-        Link::To(n) => {
+        None => answers::word(out, at, b"-"),
+        Some(n) => {
             if n == LOWER {
                 return answers::word(out, at, b"prev");
             }
@@ -136,14 +133,14 @@ fn told(out: &mut [u8], from: usize, e: Event) -> usize {
 fn computed_above(
     points: &mut [[u64; 2]],
     marks: &mut [[u32; 12]],
-    lower: Link,
+    lower: Option<u32>,
     operation: Operation,
     out: &mut [u8],
     at: usize,
 ) -> usize {
     match compute_fields(points, marks, EDGE, lower, operation) {
-        Computed::Refused(refusal) => answers::refused(out, at, refusal),
-        Computed::Done => told(out, at, read_event(points, marks, EDGE)),
+        Err(refusal) => answers::refused(out, at, refusal),
+        Ok(()) => told(out, at, read_event(points, marks, EDGE)),
     }
 }
 
@@ -151,18 +148,20 @@ pub fn answer(line: &[u8], from: usize, out: &mut [u8], at: usize) -> usize {
     let mut points = [[0u64; 2]; 8];
     let mut marks = [[0u32; 12]; 8];
     let mut subject = [false; 1];
-    let read = kinds::operation(line, from);
-    let operation = read.operation;
-    let next = words::flags(line, read.after, &mut subject);
-    let kind = kinds::edge_type(line, next);
-    let edge_type = kind.edge_type;
+    let Some((operation, next)) = kinds::operation(line, from) else {
+        return answers::malformed(out, at);
+    };
+    let next = words::flags(line, next, &mut subject);
+    let Some((edge_type, next)) = kinds::edge_type(line, next) else {
+        return answers::malformed(out, at);
+    };
     store_edge(&mut points, &mut marks, subject[0], edge_type);
     store_linked(&mut points, &mut marks);
-    if words::passed(line, kind.after, b" -") == line.len() {
-        return computed_above(&mut points, &mut marks, Link::None, operation, out, at);
+    if words::passed(line, next, b" -") == line.len() {
+        return computed_above(&mut points, &mut marks, None, operation, out, at);
     }
-    if lower(line, kind.after, &mut points, &mut marks) == line.len() {
-        return computed_above(&mut points, &mut marks, Link::To(LOWER), operation, out, at);
+    if lower(line, next, &mut points, &mut marks) == line.len() {
+        return computed_above(&mut points, &mut marks, Some(LOWER), operation, out, at);
     }
     answers::malformed(out, at)
 }

@@ -24,11 +24,7 @@ pub fn none() -> Gathered {
 }
 
 pub fn stopped(g: Gathered) -> Gathered {
-    Gathered {
-        length: g.length,
-        waiting: g.waiting,
-        more: false,
-    }
+    Gathered { more: false, ..g }
 }
 
 // Writes what waits.
@@ -36,11 +32,7 @@ fn written(rt: &impl Print, out: &[u8], g: Gathered) -> io::Result<Gathered> {
     let n = g.waiting;
     if n <= out.len() {
         rt.write_all(&out[..n])?;
-        return Ok(Gathered {
-            length: g.length,
-            waiting: 0,
-            more: g.more,
-        });
+        return Ok(Gathered { waiting: 0, ..g });
     }
     Ok(stopped(g))
 }
@@ -60,7 +52,7 @@ fn ended(rt: &impl Print, line: &[u8], out: &mut [u8], g: Gathered) -> io::Resul
     let next = Gathered {
         length: 0,
         waiting: at,
-        more: g.more,
+        ..g
     };
     if text::words::after(at, ROOM, out.len()) < out.len() {
         return Ok(next);
@@ -81,8 +73,7 @@ fn take_byte(
     text::words::put_byte(line, 0, g.length, b);
     Ok(Gathered {
         length: text::words::after(g.length, 1, line.len()),
-        waiting: g.waiting,
-        more: g.more,
+        ..g
     })
 }
 

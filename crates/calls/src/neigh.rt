@@ -2,8 +2,7 @@
 // were made, and each segment's events in turn. The segments are records 0 and 1, 2 and 3 of a pool that has room for four more.
 use crate::{answers, left, pairs, words};
 use events::pool::{enter_event, read_event};
-use events::{EdgeType, Link, ResultTransition};
-use neighbours::Met;
+use events::{EdgeType, ResultTransition};
 use records::dividing::possible_intersection;
 
 const FIRST: u32 = 0;
@@ -34,7 +33,7 @@ fn record(
         ResultTransition::None,
         in_out[0],
         false,
-        Link::None,
+        None,
     );
     enter_event(points, marks, i, flagged);
     after
@@ -122,8 +121,8 @@ fn met(
     let n = possible_intersection(points, marks, USED, FIRST, SECOND, mode);
     let met = n.met;
     match met {
-        Met::Refused(refusal) => answers::refused(out, at, refusal),
-        Met::Code(code) => told(points, marks, code, made(n.used), out, at),
+        Err(refusal) => answers::refused(out, at, refusal),
+        Ok(code) => told(points, marks, code, made(n.used), out, at),
     }
 }
 

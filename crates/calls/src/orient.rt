@@ -1,7 +1,7 @@
 // orient AX AY BX BY CX CY: -1, 0 or 1.
 use crate::{answers, words};
 use numbers::words::number;
-use orientation::{Oriented, Sign, orientation};
+use orientation::{Sign, orientation};
 
 fn turn(out: &mut [u8], at: usize, sign: Sign) -> usize {
     match sign {
@@ -24,7 +24,7 @@ pub fn answer(line: &[u8], from: usize, out: &mut [u8], at: usize) -> usize {
         number(n[4]),
         number(n[5]),
     ) {
-        Oriented::Refused(refusal) => answers::refused(out, at, refusal),
-        Oriented::Turn(sign) => turn(out, at, sign),
+        Err(refusal) => answers::refused(out, at, refusal),
+        Ok(sign) => turn(out, at, sign),
     }
 }

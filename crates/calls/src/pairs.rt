@@ -1,6 +1,6 @@
 // The records of a call, in a small pool made for it: each edge's two ends.
 use events::pool::enter_event;
-use events::{EdgeType, Event, Link, ResultTransition, fresh_event};
+use events::{EdgeType, Event, ResultTransition, fresh_event};
 use numbers::Point;
 
 // A left end with what an earlier computation left.
@@ -10,21 +10,16 @@ pub fn computed(
     transition: ResultTransition,
     in_out: bool,
     other_in_out: bool,
-    below: Link,
+    below: Option<u32>,
 ) -> Event {
-    let point = e.point;
     Event {
-        point,
-        left: e.left,
-        subject: e.subject,
-        ring: e.ring,
-        partner: e.partner,
         below,
         edge_type,
         transition,
         in_out,
         other_in_out,
-        contour: Link::None,
+        contour: None,
+        ..e
     }
 }
 
@@ -40,10 +35,8 @@ pub struct Edge {
 
 // Stores both ends, as records i and j.
 pub fn store(points: &mut [[u64; 2]], marks: &mut [[u32; 12]], i: u32, j: u32, e: Edge) {
-    let from = e.from;
-    let to = e.to;
-    let first = fresh_event(from, e.left, e.subject, e.ring, j);
-    let second = fresh_event(to, !e.left, e.subject, e.ring, i);
+    let first = fresh_event(e.from, e.left, e.subject, e.ring, j);
+    let second = fresh_event(e.to, !e.left, e.subject, e.ring, i);
     enter_event(points, marks, i, first);
     enter_event(points, marks, j, second);
 }

@@ -1,13 +1,14 @@
 // segcmp LX LY RX RY S C  LX LY RX RY S C: less, equal or greater; `same` for the second is the first again. The first is record 0, the second 2.
 // ordered-segcmp: the same with the crossing in the ordered mode.
 use crate::{answers, left, words};
-use records::{Compared, compare_segments};
-use segments::Ordering;
+use records::compare_segments;
+use refusals::Refusal;
+use std::cmp::Ordering;
 
-fn told(out: &mut [u8], at: usize, compared: Compared) -> usize {
+fn told(out: &mut [u8], at: usize, compared: Result<Ordering, Refusal>) -> usize {
     match compared {
-        Compared::Refused(refusal) => answers::refused(out, at, refusal),
-        Compared::Told(order) => match order {
+        Err(refusal) => answers::refused(out, at, refusal),
+        Ok(order) => match order {
             Ordering::Less => answers::word(out, at, b"less"),
             Ordering::Equal => answers::word(out, at, b"equal"),
             Ordering::Greater => answers::word(out, at, b"greater"),

@@ -1,6 +1,6 @@
 // The words of a line after the first. Each reader takes a place and answers the place after what it read, or MISSING, where nothing stands:
 // so a line that goes wrong stays wrong, and one test at its end is enough.
-use text::digits::{HEX_DIGITS, Read, read_decimal, read_hex};
+use text::digits::{HEX_DIGITS, read_decimal, read_hex};
 use text::words::{after, byte_at, has_word};
 
 pub const MISSING: usize = usize::MAX;
@@ -15,15 +15,13 @@ pub fn passed(line: &[u8], at: usize, word: &[u8]) -> usize {
 // Numbers by their bits, each after one space.
 pub fn numbers(line: &[u8], from: usize, into: &mut [u64]) -> usize {
     let mut at = from;
-    let mut i = 0;
-    while i < into.len() {
+    for number in into.iter_mut() {
         let digits = passed(line, at, b" ");
-        let Read::Value(bits) = read_hex(line, digits) else {
+        let Some(bits) = read_hex(line, digits) else {
             return MISSING;
         };
-        into[i] = bits;
+        *number = bits;
         at = after(digits, HEX_DIGITS, line.len());
-        i += 1;
     }
     at
 }
@@ -31,31 +29,24 @@ pub fn numbers(line: &[u8], from: usize, into: &mut [u64]) -> usize {
 // Flags, each after one space.
 pub fn flags(line: &[u8], from: usize, into: &mut [bool]) -> usize {
     let mut at = from;
-    let mut i = 0;
-    while i < into.len() {
-        let flag = passed(line, at, b" ");
-        let b = byte_at(line, flag, 0);
+    for flag in into.iter_mut() {
+        let digit = passed(line, at, b" ");
+        let b = byte_at(line, digit, 0);
         if b != b'0' && b != b'1' {
             return MISSING;
         }
-        into[i] = b == b'1';
-        at = after(flag, 1, line.len());
-        i += 1;
+        *flag = b == b'1';
+        at = after(digit, 1, line.len());
     }
     at
 }
 
 // How many decimal digits stand at `at`.
 fn digits(line: &[u8], at: usize) -> usize {
-    let mut n = 0;
-    while n < line.len() && is_digit(byte_at(line, at, n)) {
-        n += 1;
-    }
-    n
-}
-
-fn is_digit(b: u8) -> bool {
-    b'0' <= b && b <= b'9'
+    line.iter()
+        .skip(at)
+        .take_while(|b| b.is_ascii_digit())
+        .count()
 }
 
 // A ring number and the place after it.
@@ -81,7 +72,7 @@ pub fn ring(line: &[u8], from: usize) -> ReadRing {
     if n == 0 || n > 1 && byte_at(line, at, 0) == b'0' {
         return no_ring();
     }
-    let Read::Value(number) = read_decimal(line, at, n) else {
+    let Some(number) = read_decimal(line, at, n) else {
         return no_ring();
     };
     if number > MAX_RING {

@@ -1,42 +1,32 @@
--- The first record that a test strikes: how a search comes to it, and what it tells of the list.
-use mathlib.Core.Path.{◌≡◌, refl}
+-- The first record that a test strikes: it is what a search finds, and what it tells of the list.
+use mathlib.Core.Path.{◌≡◌, refl, sym, ap}
 use mathlib.Core.Logic.{◌⊎◌, inl, inr}
 use mathlib.Core.Bool.{Bool, true, false, cond}
 use mathlib.Core.List.{List, [], ◌∷◌}
 use Prim.Native.Nat.{ℕ, zero, suc, ◌+◌, ◌<◌}
 use native.Mathlib.Numerals.{add-one}
 use native.Mathlib.Omega.{arith}
-use lib.ListN.{length, drop, get_or}
-use lib.Seq.{drop-cons, drop-length}
+use lib.ListN.{length, get_or}
+use Rattle.std.specs.Prelude.{Option}
+use Rattle.std.specs.Option.{MatchOption, unwrap_or}
+use Rattle.std.specs.List.{position_or_len, AllWithin, HoldsAt}
+use Rattle.std.proofs.lemmas.Iterator.{index_from_first}
+use Rattle.std.proofs.lemmas.List.Recursion.{is_position_or_len}
 use Rattle.checks.specs.Checks.{first}
 
--- ---- the search: after i records, the first is i further on than in what is left
+-- ---- the search
 
-unfoldable pub Standing : (ℕ → Bool) → List ℕ → ℕ → Type 0
-Standing test rs i = i + first test (drop i rs) ≡ first test rs
+-- in the words of std
+pub first-place : (test : ℕ → Bool) (rs : List ℕ) → first test rs ≡ position_or_len test rs
+unfolding first
+first-place test = is_position_or_len (first test) test refl (λ r rs. let e : suc (first test rs) ≡ 1 + first test rs = omega arith in ap (cond (test r) 0) e)
 
-module _ (test : ℕ → Bool) (rs : List ℕ) where
-  pub begun : Standing test rs 0
-  unfolding Standing
-  begun = omega arith
-
-  pub found : (i : ℕ) → i < length rs → Standing test rs i → {t : Bool} → t ≡ test (get_or rs i 0) → t ≡ true → i ≡ first test rs
-  unfolding Standing first
-  found i h s t e =
-      let here : first test (drop i rs) ≡ 0 = rw (drop-cons rs i 0 h, ← t, e) in
-      omega arith
-
-  pub passed : (i : ℕ) → i < length rs → Standing test rs i → {t : Bool} → t ≡ test (get_or rs i 0) → t ≡ false → Standing test rs (i + 1)
-  unfolding Standing first
-  passed i h s t e =
-      let further : first test (drop i rs) ≡ suc (first test (drop (suc i) rs)) = rw (drop-cons rs i 0 h, ← t, e) in
-      rw add-one (omega arith)
-
-  pub ended : (i : ℕ) → i ≡ length rs → Standing test rs i → i ≡ first test rs
-  unfolding Standing first
-  ended i e s =
-      let nothing : first test (drop i rs) ≡ 0 = rw (e, drop-length rs) in
-      omega arith
+-- what a search finds, or the length
+pub first-is : (test : ℕ → Bool) (rs : List ℕ) (found : Option ℕ)
+    → MatchOption found (AllWithin (λ r. test r ≡ false) rs 0 (length rs)) (λ i. (i < length rs) × HoldsAt (λ r. test r ≡ true) rs i × AllWithin (λ r. test r ≡ false) rs 0 i)
+    → unwrap_or found (length rs) ≡ first test rs
+unfolding first
+first-is test rs found h = sym (index_from_first (first test) (λ r. test r ≡ true) (λ r. test r ≡ false) refl (λ r rs e. rw e) (λ r rs e. rw (e, add-one)) rs found h)
 
 -- ---- what the first tells
 

@@ -1,4 +1,6 @@
 -- A check that wants the records named left passes exactly if the one that does not passes, and each of them is left.
+use Rattle.std.proofs.Common.{Ok}
+use Rattle.refusals.specs.declared.Reason.TheVariants as Reason
 use mathlib.Core.Path.{◌≡◌, refl, fun_ext}
 use mathlib.Core.Bool.{Bool, true, false, not, ◌&&◌, ◌||◌, or-true}
 use mathlib.Core.List.{List, [], ◌∷◌, map}
@@ -9,7 +11,6 @@ use lib.Dec.{eqb}
 use lib.ListN.{length, get_or}
 use Rattle.events.specs.Coordinates.{Coordinates}
 use Rattle.events.specs.Event.{Event}
-use Rattle.checks.specs.declared.Check.TheVariants.{Passed}
 use Rattle.checks.specs.Checks.{any, mistaken, right_among, mistaken_or_right, unfit_at, told, checked, named, checked_left}
 use Rattle.checks.proofs.First.{None}
 use Rattle.checks.proofs.Told.{none-struck, told-passed, both-passed, passed-both}
@@ -67,21 +68,21 @@ module _ {P : Type 0} (C : Coordinates P) (row : ℕ → Event P) (n : ℕ) wher
     unfolding mistaken_or_right
     neither-test r m t = rw (m, t)
 
-    pub left_passed : checked_left C row n rs ≡ Passed → (checked C row n (named row n rs) ≡ Passed) × EachLeft rs
+    pub left_passed : checked_left C row n rs ≡ Ok tt → (checked C row n (named row n rs) ≡ Ok tt) × EachLeft rs
     unfolding checked_left checked
     left_passed e =
         let ns = named row n rs in
         let test = mistaken_or_right C row n rs in
-        let h = both-passed (told 2 (unfit_at C row n) ns) (told 4 test ns) e in
-        let none = none-struck 4 test ns h.1 in
-        let mistakes = told-passed 4 (mistaken C row n) ns (λ k l. (both-tests (get_or ns k 0) (none k l)).0) in
+        let h = both-passed (told Reason.Coordinate (unfit_at C row n) ns) (told Reason.Link test ns) e in
+        let none = none-struck Reason.Link test ns h.1 in
+        let mistakes = told-passed Reason.Link (mistaken C row n) ns (λ k l. (both-tests (get_or ns k 0) (none k l)).0) in
         let right : None (right_among row rs) rs = λ k l. (both-tests (get_or rs k 0) (none_named test rs none k l)).1 in
         (passed-both _ _ h.0 mistakes, λ k l. left-if-wanted rs (get_or rs k 0) (wanted-at rs k l) (right k l))
 
-    pub passed-left : checked C row n (named row n rs) ≡ Passed → EachLeft rs → checked_left C row n rs ≡ Passed
+    pub passed-left : checked C row n (named row n rs) ≡ Ok tt → EachLeft rs → checked_left C row n rs ≡ Ok tt
     unfolding checked_left checked
     passed-left e lefts =
         let ns = named row n rs in
-        let h = both-passed (told 2 (unfit_at C row n) ns) (told 4 (mistaken C row n) ns) e in
-        let none = none-struck 4 (mistaken C row n) ns h.1 in
-        passed-both _ _ h.0 (told-passed 4 (mistaken_or_right C row n rs) ns (λ k l. neither-test (get_or ns k 0) (none k l) (not_right rs lefts (get_or ns k 0))))
+        let h = both-passed (told Reason.Coordinate (unfit_at C row n) ns) (told Reason.Link (mistaken C row n) ns) e in
+        let none = none-struck Reason.Link (mistaken C row n) ns h.1 in
+        passed-both _ _ h.0 (told-passed Reason.Link (mistaken_or_right C row n rs) ns (λ k l. neither-test (get_or ns k 0) (none k l) (not_right rs lefts (get_or ns k 0))))

@@ -1,15 +1,17 @@
--- The numbers from 0 on: how a search over them comes to the lowest that a test strikes, and what stands at a place of them.
-use mathlib.Core.Path.{◌≡◌, refl, ◌∙◌}
+-- The numbers from 0 on: what stands at a place of them, and that a search over them finds the lowest that a test strikes.
+use Rattle.refusals.specs.declared.Reason.{Reason}
+use mathlib.Core.Path.{◌≡◌, refl, sym, ◌∙◌}
 use mathlib.Core.Bool.{Bool, true, false}
-use mathlib.Core.List.{◌∷◌}
-use Prim.Native.Nat.{ℕ, zero, suc, ◌+◌, ◌-◌, ◌<◌, ◌≤◌}
-use native.Mathlib.Numerals.{add-one}
+use Prim.Native.Nat.{ℕ, zero, suc, ◌+◌, ◌<◌, ◌≤◌}
 use native.Mathlib.Omega.{arith}
 use borrow.Author.Tests.{lt-ltb, le-ltb}
 use lib.ListN.{length, get_or}
-use Rattle.checks.specs.declared.Check.TheVariants.{Passed, Refused}
+use Rattle.std.specs.Prelude.{Option, Some, None, Err, Ok}
+use Rattle.std.specs.Option.{MatchOption, unwrap_or}
+use Rattle.std.proofs.lemmas.List.Sums.{position_or_len_is}
 use Rattle.checks.specs.Checks.{first, told}
 use Rattle.checks.specs.Numbers.{numbers_from}
+use Rattle.checks.proofs.First.{first-place}
 
 pub length-numbers : (i k : ℕ) → length (numbers_from i k) ≡ k
 unfolding numbers_from
@@ -24,52 +26,31 @@ number_at i (suc k) (suc j) h =
     let rest = number_at (suc i) k j (omega arith) in
     rest ∙ omega arith
 
--- ---- the search: the numbers below r are passed, and r is the next
-
-unfoldable pub Standing : (ℕ → Bool) → ℕ → ℕ → Type 0
-Standing test n r = r + first test (numbers_from r (n - r)) ≡ first test (numbers_from 0 n)
-
 module _ (test : ℕ → Bool) (n : ℕ) where
-  next : (r : ℕ) → r < n → numbers_from r (n - r) ≡ r ∷ numbers_from (suc r) (n - suc r)
-  unfolding numbers_from
-  next r h =
-      let e : n - r ≡ suc (n - suc r) = omega arith in
-      rw e
+  -- ---- the search: none below the place strikes, and the record there does, or it is n
 
-  pub begun : Standing test n 0
-  unfolding Standing
-  begun =
-      let e : n - 0 ≡ n = omega arith in
-      rw e (omega arith)
+  abbrev pub Found : Option ℕ → Type 0
+  Found r = MatchOption r ((k : ℕ) → 0 ≤ k → k < n → test k ≡ false) (λ i. (0 ≤ i) × (i < n) × (test i ≡ true) × ((k : ℕ) → 0 ≤ k → k < i → test k ≡ false))
 
-  pub found : (r : ℕ) → r < n → Standing test n r → {t : Bool} → t ≡ test r → t ≡ true → r ≡ first test (numbers_from 0 n)
-  unfolding Standing first
-  found r h s t e =
-      let here : first test (numbers_from r (n - r)) ≡ 0 = rw (next r h, ← t, e) in
-      omega arith
+  found-at : (i : ℕ) → i ≤ n → ((k : ℕ) → k < i → test k ≡ false) → (i < n → test i ≡ true) → i ≡ first test (numbers_from 0 n)
+  found-at i h below here =
+      let at : (k : ℕ) → k < n → get_or (numbers_from 0 n) k 0 ≡ k = λ k l. number_at 0 n k l ∙ omega arith in
+      let len = length-numbers 0 n in
+      sym (first-place test (numbers_from 0 n) ∙ position_or_len_is test (numbers_from 0 n) i 0 (omega arith) (λ k l. rw (at k (omega arith)) (below k l)) (λ l. rw (at i (omega arith)) (here (omega arith))))
 
-  pub passed : (r : ℕ) → r < n → Standing test n r → {t : Bool} → t ≡ test r → t ≡ false → Standing test n (r + 1)
-  unfolding Standing first
-  passed r h s t e =
-      let further : first test (numbers_from r (n - r)) ≡ suc (first test (numbers_from (suc r) (n - suc r))) = rw (next r h, ← t, e) in
-      rw add-one (omega arith)
-
-  pub ended : (r : ℕ) → r ≡ n → Standing test n r → r ≡ first test (numbers_from 0 n)
-  unfolding Standing first numbers_from
-  ended r e s =
-      let z : n - r ≡ 0 = omega arith in
-      let nothing : first test (numbers_from r (n - r)) ≡ 0 = rw z in
-      omega arith
+  pub lowest-is : (r : Option ℕ) → Found r → unwrap_or r n ≡ first test (numbers_from 0 n)
+  lowest-is None h = found-at n (omega arith) (λ k l. h k (omega arith) l) (λ l. absurd (omega arith))
+  lowest-is (Some i) h = found-at i (omega (arith, h.1)) (λ k l. h.3 k (omega arith) l) (λ l. h.2)
 
   -- ---- what is told
 
-  module _ (r number : ℕ) (e : r ≡ first test (numbers_from 0 n)) where
-    pub told-lowest : r < n → {m at : ℕ} → m ≡ number → at ≡ r → Refused (record { number = m; place = at }) ≡ told number test (numbers_from 0 n)
+  module _ (r : ℕ) (reason : Reason) (e : r ≡ first test (numbers_from 0 n)) where
+    pub told-lowest : r < n → {m : Reason} {at : ℕ} → m ≡ reason → at ≡ r → Err (record { reason = m; place = at }) ≡ told reason test (numbers_from 0 n)
     unfolding told
     told-lowest h q p =
         let there : get_or (numbers_from 0 n) r 0 ≡ r = number_at 0 n r h ∙ omega arith in
         rw (q, p, ← e, length-numbers, lt-ltb r n h, there)
 
-    pub told_none : n ≤ r → Passed ≡ told number test (numbers_from 0 n)
+    pub told_none : n ≤ r → Ok tt ≡ told reason test (numbers_from 0 n)
     unfolding told
     told_none h = rw (← e, length-numbers, le-ltb r n h)

@@ -1,4 +1,7 @@
 -- Refusal 1 passes exactly if the arrays have one size within the limit; 2 and 4 pass exactly if each record of the list is sound.
+use Rattle.refusals.specs.Refusals.{passed}
+use Rattle.std.proofs.Common.{Err, Ok}
+use Rattle.refusals.specs.declared.Reason.TheVariants as Reason
 use mathlib.Core.Path.{◌≡◌, refl}
 use mathlib.Core.Logic.{◌⊎◌, inl, inr, ⊎_elim}
 use mathlib.Core.Bool.{Bool, true, false, not, cond}
@@ -10,7 +13,6 @@ use lib.ListN.{length, get_or}
 use Rattle.refusals.specs.declared.Refusal.{Refusal}
 use Rattle.events.specs.Coordinates.{Coordinates}
 use Rattle.events.specs.Event.{Event}
-use Rattle.checks.specs.declared.Check.TheVariants.{Passed, Refused}
 use Rattle.checks.specs.Checks.{max_events, missized, size_refusal, mistaken, unfit_at, told, sized, checked}
 use Rattle.checks.specs.Sound.{Sized, Sound}
 use Rattle.checks.proofs.First.{None}
@@ -26,23 +28,23 @@ module _ (points marks : ℕ) where
       let h = neither (not (eqb points marks)) (ltb max_events points) e in
       record { equal = eqb-true points marks (not-false _ h.0); few = ltb-false max_events points h.1 }
 
-  pub passed-sized : Sized points marks → sized points marks ≡ Passed
+  pub passed-sized : Sized points marks → sized points marks ≡ Ok tt
   unfolding sized missized
   passed-sized s = rw (eq-eqb points marks s.equal, le-ltb max_events points s.few)
 
-  pub sized-passed : sized points marks ≡ Passed → Sized points marks
+  pub sized-passed : sized points marks ≡ Ok tt → Sized points marks
   unfolding sized
   sized-passed = by (missized points marks) refl
     where
-      by : (t : Bool) → missized points marks ≡ t → cond t (Refused size_refusal) Passed ≡ Passed → Sized points marks
+      by : (t : Bool) → missized points marks ≡ t → cond t (Err size_refusal) passed ≡ Ok tt → Sized points marks
       by true m e = absurd (not-both _ _ e refl)
       by false m e = well-sized m
 
-  pub sized-refused : (x : Refusal) → sized points marks ≡ Refused x → (missized points marks ≡ true) × (x ≡ size_refusal)
+  pub sized-refused : (x : Refusal) → sized points marks ≡ Err x → (missized points marks ≡ true) × (x ≡ size_refusal)
   unfolding sized
   sized-refused x = by (missized points marks) refl
     where
-      by : (t : Bool) → missized points marks ≡ t → cond t (Refused size_refusal) Passed ≡ Refused x → (missized points marks ≡ true) × (x ≡ size_refusal)
+      by : (t : Bool) → missized points marks ≡ t → cond t (Err size_refusal) passed ≡ Err x → (missized points marks ≡ true) × (x ≡ size_refusal)
       by true m e = (m, cc)
       by false m e = absurd (not-both _ _ refl e)
 
@@ -53,24 +55,24 @@ module _ {P : Type 0} (C : Coordinates P) (row : ℕ → Event P) (n : ℕ) wher
   abbrev pub Each : List ℕ → Type 0
   Each rs = (k : ℕ) → k < length rs → Sound C row n (get_or rs k 0)
 
-  pub checked-passed : (rs : List ℕ) → checked C row n rs ≡ Passed → Each rs
+  pub checked-passed : (rs : List ℕ) → checked C row n rs ≡ Ok tt → Each rs
   unfolding checked
   checked-passed rs e k l =
-      let h = both-passed (told 2 (unfit_at C row n) rs) (told 4 (mistaken C row n) rs) e in
-      sound C row n (get_or rs k 0) (none-struck 2 (unfit_at C row n) rs h.0 k l) (none-struck 4 (mistaken C row n) rs h.1 k l)
+      let h = both-passed (told Reason.Coordinate (unfit_at C row n) rs) (told Reason.Link (mistaken C row n) rs) e in
+      sound C row n (get_or rs k 0) (none-struck Reason.Coordinate (unfit_at C row n) rs h.0 k l) (none-struck Reason.Link (mistaken C row n) rs h.1 k l)
 
-  pub passed-checked : (rs : List ℕ) → Each rs → checked C row n rs ≡ Passed
+  pub passed-checked : (rs : List ℕ) → Each rs → checked C row n rs ≡ Ok tt
   unfolding checked
   passed-checked rs h =
-      passed-both (told 2 (unfit_at C row n) rs) (told 4 (mistaken C row n) rs)
-      (told-passed 2 (unfit_at C row n) rs (λ k l. sound-fit C row n (get_or rs k 0) (h k l)))
-      (told-passed 4 (mistaken C row n) rs (λ k l. sound-not-mistaken C row n (get_or rs k 0) (h k l)))
+      passed-both (told Reason.Coordinate (unfit_at C row n) rs) (told Reason.Link (mistaken C row n) rs)
+      (told-passed Reason.Coordinate (unfit_at C row n) rs (λ k l. sound-fit C row n (get_or rs k 0) (h k l)))
+      (told-passed Reason.Link (mistaken C row n) rs (λ k l. sound-not-mistaken C row n (get_or rs k 0) (h k l)))
 
   -- refused: by 2 at the first record that it strikes, or, where it strikes none, by 4
-  pub checked_refused : (rs : List ℕ) (x : Refusal) → checked C row n rs ≡ Refused x → Struck 2 (unfit_at C row n) rs x ⊎ (None (unfit_at C row n) rs × Struck 4 (mistaken C row n) rs x)
+  pub checked_refused : (rs : List ℕ) (x : Refusal) → checked C row n rs ≡ Err x → Struck Reason.Coordinate (unfit_at C row n) rs x ⊎ (None (unfit_at C row n) rs × Struck Reason.Link (mistaken C row n) rs x)
   unfolding checked
   checked_refused rs x e =
       ⊎_elim
-      (λ q. inl (told-refused 2 (unfit_at C row n) rs x q))
-      (λ q. inr (none-struck 2 (unfit_at C row n) rs q.0, told-refused 4 (mistaken C row n) rs x q.1))
-      (either-refused (told 2 (unfit_at C row n) rs) (told 4 (mistaken C row n) rs) x e)
+      (λ q. inl (told-refused Reason.Coordinate (unfit_at C row n) rs x q))
+      (λ q. inr (none-struck Reason.Coordinate (unfit_at C row n) rs q.0, told-refused Reason.Link (mistaken C row n) rs x q.1))
+      (either-refused (told Reason.Coordinate (unfit_at C row n) rs) (told Reason.Link (mistaken C row n) rs) x e)

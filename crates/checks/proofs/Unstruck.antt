@@ -1,11 +1,10 @@
 -- A record is sound exactly if neither 2 nor 4 strikes it: test by test.
+use Rattle.std.proofs.Common.{None, Option, Some}
 use mathlib.Core.Path.{◌≡◌, refl}
 use mathlib.Core.Bool.{Bool, true, false, not, ◌||◌, beq, and-false, true≢false}
 use Prim.Native.Nat.{ℕ, ◌<◌}
 use borrow.Author.Tests.{ltb-true, eqb-true, not-false, lt-ltb, eq-eqb}
 use lib.Dec.{eqb}
-use Rattle.events.specs.declared.Link.{Link}
-use Rattle.events.specs.declared.Link.TheVariants.{None, To}
 use Rattle.events.specs.Coordinates.{Coordinates, ahead}
 use Rattle.events.specs.Event.{Event}
 use Rattle.checks.specs.Checks.{outside, unpaired, alike, in_order, misordered, not_to_left, misled, mistaken, unfit_at}
@@ -34,16 +33,16 @@ unfolding outside
 not-outside n r h = rw (lt-ltb r n h)
 
 module _ {P : Type 0} (row : ℕ → Event P) (n : ℕ) where
-  to_left : (l : Link) → not_to_left row n l ≡ false → (b : ℕ) → l ≡ To b → LeftIn row n b
+  to_left : (l : Option ℕ) → not_to_left row n l ≡ false → (b : ℕ) → l ≡ Some b → LeftIn row n b
   unfolding not_to_left
   to_left l e b q =
       let h = neither _ _ (rw q at e) in
       record { inside = inside n b h.0; left = not-false _ h.1 }
 
-  not-to-left : (l : Link) → ((b : ℕ) → l ≡ To b → LeftIn row n b) → not_to_left row n l ≡ false
+  not-to-left : (l : Option ℕ) → ((b : ℕ) → l ≡ Some b → LeftIn row n b) → not_to_left row n l ≡ false
   unfolding not_to_left
   not-to-left None h = refl
-  not-to-left (To b) h = rw (not-outside n b (h b refl).inside, (h b refl).left)
+  not-to-left (Some b) h = rw (not-outside n b (h b refl).inside, (h b refl).left)
 
 module _ {P : Type 0} (C : Coordinates P) (row : ℕ → Event P) (n r : ℕ) where
   pub sound : unfit_at C row n r ≡ false → mistaken C row n r ≡ false → Sound C row n r

@@ -1,14 +1,12 @@
 -- Refusals 1, 2 and 4 for event records (01, 'Numbers given back'), over any kind of coordinate: `row` tells the record with a number, and a pool of n
 -- places holds the records below n. A test of a record is true where it strikes. Nothing here says which records an entry looks at, but for `named`.
-use Rattle.std.specs.Prelude.{Bool, false, not, cond, ◌&&◌, ◌||◌, List, [], ◌∷◌, map, ℕ, suc, eqb, ltb, length, get_or}
+use Rattle.std.specs.Prelude.{Bool, false, not, cond, ◌&&◌, ◌||◌, List, [], ◌∷◌, map, ℕ, suc, eqb, ltb, length, get_or, Err, None, Ok, Option, Some}
+use Rattle.refusals.specs.declared.Reason.{Reason}
+use Rattle.refusals.specs.Refusals.{Verdict}
 use Rattle.std.specs.Bool.{beq}
 use Rattle.refusals.specs.declared.Refusal.{Refusal}
-use Rattle.events.specs.declared.Link.{Link}
-use Rattle.events.specs.declared.Link.TheVariants.{None, To}
 use Rattle.events.specs.Coordinates.{Coordinates, ahead}
 use Rattle.events.specs.Event.{Event}
-use Rattle.checks.specs.declared.Check.{Check}
-use Rattle.checks.specs.declared.Check.TheVariants.{Passed, Refused}
 
 -- ---- refusal 1: the sizes of the two arrays
 
@@ -49,9 +47,9 @@ in_order C row r =
 unfoldable pub misordered : {P : Type 0} → Coordinates P → (ℕ → Event P) → ℕ → Bool
 misordered C row r = not (in_order C row r)
 
-unfoldable pub not_to_left : {P : Type 0} → (ℕ → Event P) → ℕ → Link → Bool
+unfoldable pub not_to_left : {P : Type 0} → (ℕ → Event P) → ℕ → Option ℕ → Bool
 not_to_left row n None = false
-not_to_left row n (To b) = outside n b || not (row b).left
+not_to_left row n (Some b) = outside n b || not (row b).left
 
 -- below link not to a left record
 unfoldable pub misled : {P : Type 0} → (ℕ → Event P) → ℕ → ℕ → Bool
@@ -90,26 +88,26 @@ first test [] = 0
 first test (r ∷ rs) = cond (test r) 0 (suc (first test rs))
 
 -- refused by this number at the first record that the test strikes
-unfoldable pub told : ℕ → (ℕ → Bool) → List ℕ → Check
-told number test rs = cond (ltb (first test rs) (length rs)) (Refused (record { number = number; place = get_or rs (first test rs) 0 })) Passed
+unfoldable pub told : Reason → (ℕ → Bool) → List ℕ → Verdict
+told reason test rs = cond (ltb (first test rs) (length rs)) (Err (record { reason = reason; place = get_or rs (first test rs) 0 })) (Ok tt)
 
 -- the next check, if this one passed
-unfoldable pub and_then : Check → Check → Check
-and_then Passed next = next
-and_then (Refused r) next = Refused r
+unfoldable pub and_then : Verdict → Verdict → Verdict
+and_then (Ok _) next = next
+and_then (Err r) next = Err r
 
 -- ---- the checks in their order
 
 -- 1, told at place 1: the pool
 abbrev pub size_refusal : Refusal
-size_refusal = record { number = 1; place = 1 }
+size_refusal = record { reason = Reason.Size; place = 1 }
 
-unfoldable pub sized : ℕ → ℕ → Check
-sized points marks = cond (missized points marks) (Refused size_refusal) Passed
+unfoldable pub sized : ℕ → ℕ → Verdict
+sized points marks = cond (missized points marks) (Err size_refusal) (Ok tt)
 
 -- 2, then 4, each over all records before the next
-unfoldable pub checked : {P : Type 0} → Coordinates P → (ℕ → Event P) → ℕ → List ℕ → Check
-checked C row n rs = and_then (told 2 (unfit_at C row n) rs) (told 4 (mistaken C row n) rs)
+unfoldable pub checked : {P : Type 0} → Coordinates P → (ℕ → Event P) → ℕ → List ℕ → Verdict
+checked C row n rs = and_then (told Reason.Coordinate (unfit_at C row n) rs) (told Reason.Link (mistaken C row n) rs)
 
 -- ---- the records that an entry on single records looks at, and connection by 2
 
@@ -123,5 +121,5 @@ named row n [] = []
 named row n (r ∷ rs) = r ∷ mate row n r ∷ named row n rs
 
 -- the checks of an entry that wants the records named left: a right `a` is told before a mistaken `b`
-unfoldable pub checked_left : {P : Type 0} → Coordinates P → (ℕ → Event P) → ℕ → List ℕ → Check
-checked_left C row n rs = and_then (told 2 (unfit_at C row n) (named row n rs)) (told 4 (mistaken_or_right C row n rs) (named row n rs))
+unfoldable pub checked_left : {P : Type 0} → Coordinates P → (ℕ → Event P) → ℕ → List ℕ → Verdict
+checked_left C row n rs = and_then (told Reason.Coordinate (unfit_at C row n) (named row n rs)) (told Reason.Link (mistaken_or_right C row n rs) (named row n rs))

@@ -1,6 +1,5 @@
 -- What refusals 1, 2 and 4 leave: arrays of one size within the limit, and records of which each fits its partner and the edge below.
-use Rattle.std.specs.Prelude.{◌≡◌, true, not, ℕ, ◌<◌, ◌≤◌}
-use Rattle.events.specs.declared.Link.TheVariants.{To}
+use Rattle.std.specs.Prelude.{◌≡◌, true, not, ℕ, ◌<◌, ◌≤◌, Some}
 use Rattle.events.specs.Coordinates.{Coordinates}
 use Rattle.events.specs.Event.{Event}
 use Rattle.checks.specs.Checks.{max_events, in_order}
@@ -24,7 +23,7 @@ pub record Sound {P : Type 0} (C : Coordinates P) (row : ℕ → Event P) (n r :
   -- one is left and the other right
   pub unlike : (row (row r).partner).left ≡ not (row r).left
   pub ordered : in_order C row r ≡ true
-  pub below : (b : ℕ) → (row r).below ≡ To b → LeftIn row n b
+  pub below : (b : ℕ) → (row r).below ≡ Some b → LeftIn row n b
 
 -- a record and its partner
 pub record Pair {P : Type 0} (C : Coordinates P) (row : ℕ → Event P) (n r : ℕ) : Type 0 where

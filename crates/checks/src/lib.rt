@@ -16,14 +16,8 @@ pub mod loaded;
 pub mod records;
 pub mod sizes;
 
-#[derive(Clone, Copy)]
-pub enum Check {
-    Passed,
-    Refused(Refusal),
-}
-
 // What can be wrong with one record: refusal 2, refusal 4.
-#[derive(Clone, Copy)]
+#[derive(Clone, Copy, Debug, PartialEq, Eq)]
 pub enum Fault {
     Unfit,
     Mistaken,
@@ -32,7 +26,7 @@ pub enum Fault {
 }
 
 // For an entry that names one record: refusals 1, 2 and 4 for it and its partner.
-pub fn check_one(points: &[[u64; 2]], marks: &[[u32; 12]], a: u32) -> Check
+pub fn check_one(points: &[[u64; 2]], marks: &[[u32; 12]], a: u32) -> Result<(), Refusal>
     ensures { result ≡ checked_named (pool points.now marks.now) (a ∷ []) }
 {
     let n = places(points, marks);
@@ -41,7 +35,7 @@ pub fn check_one(points: &[[u64; 2]], marks: &[[u32; 12]], a: u32) -> Check
 }
 
 // For an entry that names two records.
-pub fn check_two(points: &[[u64; 2]], marks: &[[u32; 12]], a: u32, b: u32) -> Check
+pub fn check_two(points: &[[u64; 2]], marks: &[[u32; 12]], a: u32, b: u32) -> Result<(), Refusal>
     ensures { result ≡ checked_named (pool points.now marks.now) (a ∷ b ∷ []) }
 {
     let n = places(points, marks);
@@ -55,7 +49,7 @@ pub fn check_two(points: &[[u64; 2]], marks: &[[u32; 12]], a: u32, b: u32) -> Ch
 }
 
 // For an entry that names one record and wants it left.
-pub fn check_left_one(points: &[[u64; 2]], marks: &[[u32; 12]], a: u32) -> Check
+pub fn check_left_one(points: &[[u64; 2]], marks: &[[u32; 12]], a: u32) -> Result<(), Refusal>
     ensures { result ≡ checked_left_named (pool points.now marks.now) (a ∷ []) }
 {
     let n = places(points, marks);
@@ -64,7 +58,12 @@ pub fn check_left_one(points: &[[u64; 2]], marks: &[[u32; 12]], a: u32) -> Check
 }
 
 // For an entry that names two records and wants both left.
-pub fn check_left_two(points: &[[u64; 2]], marks: &[[u32; 12]], a: u32, b: u32) -> Check
+pub fn check_left_two(
+    points: &[[u64; 2]],
+    marks: &[[u32; 12]],
+    a: u32,
+    b: u32,
+) -> Result<(), Refusal>
     ensures { result ≡ checked_left_named (pool points.now marks.now) (a ∷ b ∷ []) }
 {
     let n = places(points, marks);
@@ -78,11 +77,9 @@ pub fn check_left_two(points: &[[u64; 2]], marks: &[[u32; 12]], a: u32, b: u32) 
 }
 
 // For the sweep: refusals 2 and 4 for the first n records. A link to a number not below n leads outside.
-pub fn check_loaded(points: &[[u64; 2]], marks: &[[u32; 12]], n: u32) -> Check
+pub fn check_loaded(points: &[[u64; 2]], marks: &[[u32; 12]], n: u32) -> Result<(), Refusal>
     ensures { result ≡ checked at_binary64 (row_at (pool points.now marks.now)) n (numbers_from 0 n) }
 {
-    match loaded::check_lowest(points, marks, n, Fault::Unfit) {
-        Check::Refused(refusal) => Check::Refused(refusal),
-        Check::Passed => loaded::check_lowest(points, marks, n, Fault::Mistaken),
-    }
+    loaded::check_lowest(points, marks, n, Fault::Unfit)?;
+    loaded::check_lowest(points, marks, n, Fault::Mistaken)
 }

@@ -3,11 +3,11 @@ ghost use Rattle.std.specs.Prelude.{◌≡◌};
 ghost use Rattle.events.specs.Pool.{pool};
 ghost use Rattle.checks.specs.Checks.{first, told};
 ghost use Rattle.checks.specs.Numbers.{numbers_from};
-ghost use Rattle.checks.specs.OnPool.{number_of, strikes};
+ghost use Rattle.checks.specs.OnPool.{reason_of, strikes};
 
-use crate::list::{number_of, place_of};
+use crate::Fault;
+use crate::list::{place_of, reason_of};
 use crate::records::is_struck;
-use crate::{Check, Fault};
 use refusals::Refusal;
 
 // The lowest record with the fault; n where none has it.
@@ -15,26 +15,25 @@ pub fn lowest_struck(points: &[[u64; 2]], marks: &[[u32; 12]], n: u32, fault: Fa
     ensures { result ≡ first (strikes (pool points.now marks.now) n fault) (numbers_from 0 n) }
 {
     let places = n as usize;
-    let mut r = 0;
-    while r < n {
-        if is_struck(points, marks, places, fault, r) {
-            return r;
-        }
-        r += 1;
-    }
-    r
+    let struck = (0..n).find(|r| is_struck(points, marks, places, fault, *r));
+    struck.unwrap_or(n)
 }
 
 // Refused at the lowest record with the fault.
-pub fn check_lowest(points: &[[u64; 2]], marks: &[[u32; 12]], n: u32, fault: Fault) -> Check
-    ensures { result ≡ told (number_of fault) (strikes (pool points.now marks.now) n fault) (numbers_from 0 n) }
+pub fn check_lowest(
+    points: &[[u64; 2]],
+    marks: &[[u32; 12]],
+    n: u32,
+    fault: Fault,
+) -> Result<(), Refusal>
+    ensures { result ≡ told (reason_of fault) (strikes (pool points.now marks.now) n fault) (numbers_from 0 n) }
 {
     let r = lowest_struck(points, marks, n, fault);
     if r < n {
-        return Check::Refused(Refusal {
-            number: number_of(fault),
+        return Err(Refusal {
+            reason: reason_of(fault),
             place: place_of(r),
         });
     }
-    Check::Passed
+    Ok(())
 }

@@ -8,11 +8,11 @@ ghost use Rattle.checks.specs.OnPool.{strikes};
 
 use crate::Fault;
 use crate::sizes::is_outside;
-use events::Link;
 use events::points::{is_ahead, is_unfit_point};
 use events::pool::read_event;
 
 // Refusal 2: a record of the pool whose point is not fit.
+#[tactic(auto, unfolding(crate::specs::Checks::unfit_at))]
 pub fn is_unfit_at(points: &[[u64; 2]], marks: &[[u32; 12]], n: usize, r: u32) -> bool
     ensures { result ≡ unfit_at at_binary64 (row_at (pool points.now marks.now)) n r }
 {
@@ -24,6 +24,7 @@ pub fn is_unfit_at(points: &[[u64; 2]], marks: &[[u32; 12]], n: usize, r: u32) -
 }
 
 // Partner not mutual.
+#[tactic(auto, unfolding(crate::specs::Checks::unpaired))]
 pub fn is_unpaired(points: &[[u64; 2]], marks: &[[u32; 12]], n: usize, r: u32) -> bool
     ensures { result ≡ unpaired (row_at (pool points.now marks.now)) n r }
 {
@@ -36,6 +37,7 @@ pub fn is_unpaired(points: &[[u64; 2]], marks: &[[u32; 12]], n: usize, r: u32) -
 }
 
 // Both flags alike.
+#[tactic(auto, unfolding(crate::specs::Checks::alike))]
 pub fn is_alike(points: &[[u64; 2]], marks: &[[u32; 12]], r: u32) -> bool
     ensures { result ≡ alike (row_at (pool points.now marks.now)) r }
 {
@@ -45,6 +47,7 @@ pub fn is_alike(points: &[[u64; 2]], marks: &[[u32; 12]], r: u32) -> bool
 }
 
 // Left end not before its partner.
+#[tactic(auto, unfolding(crate::specs::Checks::misordered, crate::specs::Checks::in_order))]
 pub fn is_misordered(points: &[[u64; 2]], marks: &[[u32; 12]], r: u32) -> bool
     ensures { result ≡ misordered at_binary64 (row_at (pool points.now marks.now)) r }
 {
@@ -56,12 +59,13 @@ pub fn is_misordered(points: &[[u64; 2]], marks: &[[u32; 12]], r: u32) -> bool
     !is_ahead(other.point, e.point)
 }
 
-fn is_not_to_left(points: &[[u64; 2]], marks: &[[u32; 12]], n: usize, below: Link) -> bool
+#[tactic(auto, unfolding(crate::specs::Checks::not_to_left))]
+fn is_not_to_left(points: &[[u64; 2]], marks: &[[u32; 12]], n: usize, below: Option<u32>) -> bool
     ensures { result ≡ not_to_left (row_at (pool points.now marks.now)) n below }
 {
     match below {
-        Link::None => false,
-        Link::To(b) => {
+        None => false,
+        Some(b) => {
             if is_outside(n, b) {
                 return true;
             }
@@ -71,6 +75,7 @@ fn is_not_to_left(points: &[[u64; 2]], marks: &[[u32; 12]], n: usize, below: Lin
 }
 
 // Below link not to a left record.
+#[tactic(auto, unfolding(crate::specs::Checks::misled))]
 pub fn is_misled(points: &[[u64; 2]], marks: &[[u32; 12]], n: usize, r: u32) -> bool
     ensures { result ≡ misled (row_at (pool points.now marks.now)) n r }
 {
@@ -80,6 +85,7 @@ pub fn is_misled(points: &[[u64; 2]], marks: &[[u32; 12]], n: usize, r: u32) -> 
 }
 
 // Refusal 4: one of the five.
+#[tactic(auto, unfolding(crate::specs::Checks::mistaken))]
 pub fn is_mistaken(points: &[[u64; 2]], marks: &[[u32; 12]], n: usize, r: u32) -> bool
     ensures { result ≡ mistaken at_binary64 (row_at (pool points.now marks.now)) n r }
 {
@@ -99,6 +105,7 @@ pub fn is_mistaken(points: &[[u64; 2]], marks: &[[u32; 12]], n: usize, r: u32) -
 }
 
 // A right record that is a or b.
+#[tactic(auto, unfolding(crate::specs::Checks::right_among))]
 fn is_right_among(points: &[[u64; 2]], marks: &[[u32; 12]], a: u32, b: u32, r: u32) -> bool
     ensures { result ≡ right_among (row_at (pool points.now marks.now)) (a ∷ b ∷ []) r }
 {
@@ -107,6 +114,7 @@ fn is_right_among(points: &[[u64; 2]], marks: &[[u32; 12]], a: u32, b: u32, r: u
 }
 
 // Refusal 4 where a and b are wanted left.
+#[tactic(auto, unfolding(crate::specs::Checks::mistaken_or_right))]
 pub fn is_mistaken_or_right(
     points: &[[u64; 2]],
     marks: &[[u32; 12]],
@@ -124,6 +132,7 @@ pub fn is_mistaken_or_right(
 }
 
 // Whether the record has the fault.
+#[tactic(auto, unfolding(crate::specs::OnPool::strikes))]
 pub fn is_struck(points: &[[u64; 2]], marks: &[[u32; 12]], n: usize, fault: Fault, r: u32) -> bool
     ensures { result ≡ strikes (pool points.now marks.now) n fault r }
 {
@@ -135,6 +144,7 @@ pub fn is_struck(points: &[[u64; 2]], marks: &[[u32; 12]], n: usize, fault: Faul
 }
 
 // The partner's number; outside the pool the number itself.
+#[tactic(auto, unfolding(crate::specs::Checks::mate))]
 pub fn mate(points: &[[u64; 2]], marks: &[[u32; 12]], n: usize, r: u32) -> u32
     ensures { result ≡ Checks.mate (row_at (pool points.now marks.now)) n r }
 {

@@ -13,6 +13,7 @@ pub const FEW: usize = 256;
 pub const POOL_PLACE: u64 = 1;
 
 // Refusal 1: the arrays unequal, or above the limit.
+#[tactic(auto, unfolding(crate::specs::Checks::missized))]
 pub fn pool_refused(points: &[[u64; 2]], marks: &[[u32; 12]]) -> bool
     ensures { result ≡ missized (length points.now) (length marks.now) }
 {
@@ -23,16 +24,15 @@ pub fn pool_refused(points: &[[u64; 2]], marks: &[[u32; 12]]) -> bool
 }
 
 // The places of a pool: those of the shorter array.
+#[tactic(auto, unfolding(events::specs::Pool::size))]
 pub fn places(points: &[[u64; 2]], marks: &[[u32; 12]]) -> usize
     ensures { result ≡ size (pool points.now marks.now) }
 {
-    if points.len() < marks.len() {
-        return points.len();
-    }
-    marks.len()
+    points.len().min(marks.len())
 }
 
 // A number outside a pool of n places.
+#[tactic(auto, unfolding(crate::specs::Checks::outside))]
 pub fn is_outside(n: usize, r: u32) -> bool
     ensures { result ≡ outside n r }
 {

@@ -1,15 +1,15 @@
 -- A coinciding pair, one edge of each layer: the layers change together across it exactly where the two in-out flags are equal. The flags say so in both ways
 -- in which the sweep has computed them when the two meet. The transition of the pair is not always the table's.
+use Rattle.std.proofs.Common.{Some, None}
 use mathlib.Core.Path.{◌≡◌, refl, sym, ap, ◌∙◌}
 use mathlib.Core.Bool.{Bool, true, false, not, beq, not-not}
 use Rattle.events.specs.declared.EdgeType.{EdgeType}
 use Rattle.events.specs.declared.EdgeType.TheVariants.{Normal, SameTransition, DifferentTransition}
 use Rattle.events.specs.declared.ResultTransition.TheVariants.{None as NoTransition, InOut, OutIn}
-use Rattle.events.specs.declared.Link.TheVariants.{None as NoLink}
 use Rattle.events.specs.Event.{Event}
 use Rattle.class.specs.declared.Operation.{Operation}
 use Rattle.class.specs.declared.Operation.TheVariants.{Intersection, Difference}
-use Rattle.class.specs.Class.{Neighbour, None, Edge, written, in_out_above, other_in_out_above, set_from_lower, same_in_result, different_in_result, in_result_as, holds_above, direction, transition_in, fields}
+use Rattle.class.specs.Class.{Neighbour, written, in_out_above, other_in_out_above, set_from_lower, same_in_result, different_in_result, in_result_as, holds_above, direction, transition_in, fields}
 use Rattle.class.specs.Truth.{holds, Place, place, Sides, turn, turn_across, own, other, Describes, across_both, PairAbove, Together, Oppositely}
 use Rattle.class.proofs.Handing.{own-handed, own-passed, own-outside}
 
@@ -59,14 +59,14 @@ module _ {P : Type 0} (p : Place) (e f : Event P) (h : PairAbove p e f) where
 -- ---- the two ways in which the flags were computed, vertical neighbours among them, since in-out does not look at slopes
 
 -- The upper edge above the lower: as the sweep asks of a new edge and the one below it, and of both once they have been computed anew.
-pub pair-stacked : {P : Type 0} (op : Operation) (f : Event P) (n : Neighbour P) (s : Sides) → f.subject ≡ not n.event.subject → Describes n.event s → PairAbove s.below n.event (fields op f (Edge n))
+pub pair-stacked : {P : Type 0} (op : Operation) (f : Event P) (n : Neighbour P) (s : Sides) → f.subject ≡ not n.event.subject → Describes n.event s → PairAbove s.below n.event (fields op f (Some n))
 unfolding fields set_from_lower written
 pair-stacked op f n s apart d =
     let e = n.event in
     record { two_layers = apart; first = d.own_below; second = rw apart (own-passed e.subject e.in_out e.other_in_out s.below d.other_below) }
 
 -- Both above the same edge: as the sweep asks of a new edge and the one above it, which was computed before the new one came between.
-pub pair-level : {P : Type 0} (op : Operation) (e f : Event P) (n : Neighbour P) (s : Sides) → f.subject ≡ not e.subject → Describes n.event s → PairAbove s.above (fields op e (Edge n)) (fields op f (Edge n))
+pub pair-level : {P : Type 0} (op : Operation) (e f : Event P) (n : Neighbour P) (s : Sides) → f.subject ≡ not e.subject → Describes n.event s → PairAbove s.above (fields op e (Some n)) (fields op f (Some n))
 unfolding fields set_from_lower written
 pair-level op e f n s apart d =
     let prev = n.event in
@@ -89,12 +89,12 @@ fresh at subject type =
       subject = subject;
       ring = 0;
       partner = 1;
-      below = NoLink;
+      below = None;
       edge_type = type;
       transition = NoTransition;
       in_out = false;
       other_in_out = false;
-      contour = NoLink;
+      contour = None;
     }
 
 -- Two equal squares, intersection: their lower edges coincide, the intersection begins above them, and the lower of the two records says InOut.
@@ -107,6 +107,6 @@ abbrev below-example : {P : Type 0} → P → Neighbour P
 below-example at = record { number = 2; event = fields Difference (fresh at false Normal) None; vertical = false }
 
 -- A square of the subject standing on one of the clip, difference: the difference begins above the edge that they share, and the record says InOut.
-pub different-example : {P : Type 0} (at : P) → ((fields Difference (fresh at true DifferentTransition) (Edge (below-example at))).transition ≡ InOut) × (turn_across Difference (record { below = place false true; above = place true false }) ≡ OutIn)
+pub different-example : {P : Type 0} (at : P) → ((fields Difference (fresh at true DifferentTransition) (Some (below-example at))).transition ≡ InOut) × (turn_across Difference (record { below = place false true; above = place true false }) ≡ OutIn)
 unfolding fields set_from_lower written in_out_above other_in_out_above transition_in direction in_result_as different_in_result holds_above holds turn
 different-example at = (refl, refl)

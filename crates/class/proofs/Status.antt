@@ -1,14 +1,13 @@
 -- Up a status: if the lower neighbour tells of the edges below it, so does what is computed from it, by the four cases of two layers and a slope.
+use Rattle.std.proofs.Common.{Some, None, Option}
 use mathlib.Core.Path.{◌≡◌, refl, sym, ap, ◌∙◌}
 use mathlib.Core.Bool.{Bool, true, false, cond, not, ◌&&◌, ◌||◌, beq, not-not}
 use mathlib.Core.List.{List, [], ◌∷◌}
 use Prim.Native.Nat.{ℕ, suc}
 use Rattle.events.specs.declared.EdgeType.TheVariants.{Normal}
-use Rattle.events.specs.declared.Link.{Link}
-use Rattle.events.specs.declared.Link.TheVariants.{To}
 use Rattle.events.specs.Event.{Event}
 use Rattle.class.specs.declared.Operation.{Operation}
-use Rattle.class.specs.Class.{Neighbour, None, Edge, written, in_out_above, other_in_out_above, below_above, set_from_lower, is_in_result, in_result, fields}
+use Rattle.class.specs.Class.{Neighbour, written, in_out_above, other_in_out_above, below_above, set_from_lower, is_in_result, in_result, fields}
 use Rattle.class.specs.Truth.{place, changes, own, other, Describes}
 use Rattle.class.specs.Status.{next_below, Computed, is_crossed, crossings, NoneVertical, edges_of, is_odd, nearest, Tells, beyond, sides_above}
 use Rattle.class.proofs.Truth.{normal-in-result}
@@ -39,7 +38,7 @@ other-in-out-above true false false i o k h l = h ∙ sym (not-not _)
 other-in-out-above false true true i o k h l = ap not h
 other-in-out-above false true false i o k h l = h ∙ sym (not-not _)
 
-link-above : (vertical taken : Bool) (own below rest : Link) → below ≡ rest → cond vertical below (cond taken own below) ≡ cond (taken && not vertical) own rest
+link-above : (vertical taken : Bool) (own below rest : Option ℕ) → below ≡ rest → cond vertical below (cond taken own below) ≡ cond (taken && not vertical) own rest
 link-above true true own below rest h = h
 link-above true false own below rest h = h
 link-above false true own below rest h = refl
@@ -53,14 +52,14 @@ module _ {P : Type 0} (op : Operation) (e : Event P) where
   tells_none = record { in_out = refl; other_in_out = refl; below_link = refl }
 
   -- From one edge to the next above it: nothing is asked but that the neighbour tells of what lies below it.
-  pub tells-above : (n : Neighbour P) (below : List (Neighbour P)) → Tells n.event below → Tells (fields op e (Edge n)) (n ∷ below)
+  pub tells-above : (n : Neighbour P) (below : List (Neighbour P)) → Tells n.event below → Tells (fields op e (Some n)) (n ∷ below)
   unfolding fields set_from_lower written crossings is_crossed nearest below_above
   tells-above n below t =
       let b = n.event.subject in
       record {
         in_out = in-out-above e.subject b n.vertical _ _ (λ layer. crossings layer b below) t.in_out t.other_in_out;
         other_in_out = other-in-out-above e.subject b n.vertical _ _ (λ layer. crossings layer b below) t.in_out t.other_in_out;
-        below_link = link-above n.vertical (is_in_result n.event) (To n.number) _ _ t.below_link;
+        below_link = link-above n.vertical (is_in_result n.event) (Some n.number) _ _ t.below_link;
       }
 
 -- Every edge of such a list, since what lies below one is such a list too.

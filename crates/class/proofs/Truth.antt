@@ -1,11 +1,12 @@
 -- Edge class agrees with the truth table: what the flags say of a record's two sides turns each statement into a row of the table.
+use Rattle.std.proofs.Common.{Option, Some, None}
 use mathlib.Core.Path.{◌≡◌, refl, ◌∙◌}
 use mathlib.Core.Bool.{Bool, true, false, not, cond}
 use Rattle.events.specs.declared.EdgeType.TheVariants.{Normal, NonContributing, SameTransition, DifferentTransition}
 use Rattle.events.specs.declared.ResultTransition.TheVariants.{InOut, OutIn}
 use Rattle.events.specs.Event.{Event}
 use Rattle.class.specs.declared.Operation.{Operation}
-use Rattle.class.specs.Class.{Lower, None, Edge, written, set_from_lower, is_in_result, normal_in_result, in_result_as, in_result, holds_above, direction, transition_in, fields}
+use Rattle.class.specs.Class.{written, set_from_lower, is_in_result, normal_in_result, in_result_as, in_result, holds_above, direction, transition_in, fields, Neighbour}
 use Rattle.class.specs.Truth.{Place, Sides, value, changes, turn_across, own, other, Describes, Together, Oppositely}
 use Rattle.class.proofs.Rows.{told, normal-rows, same_rows, different-rows, turned, shows}
 
@@ -55,17 +56,17 @@ non-contributing op e never = rw never
 
 -- ---- what is written into the record
 
-type-kept : {P : Type 0} (e : Event P) (lower : Lower P) → (set_from_lower e lower).edge_type ≡ e.edge_type
+type-kept : {P : Type 0} (e : Event P) (lower : Option (Neighbour P)) → (set_from_lower e lower).edge_type ≡ e.edge_type
 unfolding set_from_lower written
 type-kept e None = refl
-type-kept e (Edge n) = refl
+type-kept e (Some n) = refl
 
 -- The record says that it is in the result exactly if it is.
-pub written-in-result : {P : Type 0} (op : Operation) (e : Event P) (lower : Lower P) → is_in_result (fields op e lower) ≡ in_result op (fields op e lower)
+pub written-in-result : {P : Type 0} (op : Operation) (e : Event P) (lower : Option (Neighbour P)) → is_in_result (fields op e lower) ≡ in_result op (fields op e lower)
 unfolding fields written transition_in direction
 written-in-result op e lower = shows (in_result op (set_from_lower e lower)) (holds_above op (set_from_lower e lower).subject (not (set_from_lower e lower).in_out) (not (set_from_lower e lower).other_in_out))
 
 -- The transition that is written for a Normal edge is the table's.
-pub written-transition : {P : Type 0} (op : Operation) (e : Event P) (lower : Lower P) (s : Sides) → e.edge_type ≡ Normal → Describes (fields op e lower) s → (fields op e lower).transition ≡ turn_across op s
+pub written-transition : {P : Type 0} (op : Operation) (e : Event P) (lower : Option (Neighbour P)) (s : Sides) → e.edge_type ≡ Normal → Describes (fields op e lower) s → (fields op e lower).transition ≡ turn_across op s
 unfolding fields written transition_in direction
 written-transition op e lower s normal d = normal-transition op (fields op e lower) s (type-kept e lower ∙ normal) d

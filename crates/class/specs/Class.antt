@@ -1,20 +1,16 @@
 -- Edge class (01, 'Edge class'), over any kind of point: flags and below link from the lower neighbour, then whether the operation takes the
 -- edge into the result, and which way. In-out: going up across the edge, its own layer is left. Other-in-out: the edge is outside the other layer.
-use Rattle.std.specs.Prelude.{Bool, true, false, cond, not, ◌&&◌, ◌||◌, ℕ}
+use Rattle.std.specs.Prelude.{Bool, true, false, cond, not, ◌&&◌, ◌||◌, ℕ, Option, Some, None}
 use Rattle.std.specs.Bool.{xor, beq}
 use Rattle.numbers.specs.declared.Point.{Point}
 use Rattle.events.specs.declared.EdgeType.{EdgeType}
 use Rattle.events.specs.declared.EdgeType.TheVariants.{Normal, NonContributing, SameTransition, DifferentTransition}
 use Rattle.events.specs.declared.ResultTransition.{ResultTransition}
 use Rattle.events.specs.declared.ResultTransition.TheVariants.{None as NoTransition, InOut, OutIn}
-use Rattle.events.specs.declared.Link.{Link}
-use Rattle.events.specs.declared.Link.TheVariants.{None as NoLink, To}
 use Rattle.events.specs.Event.{Event, has_transition, shown}
 use Rattle.class.specs.declared.Operation.{Operation}
 use Rattle.class.specs.declared.Operation.TheVariants.{Intersection, Difference, Union, Xor}
 use Rattle.class.specs.declared.Neighbour.{Neighbour as CodeNeighbour}
-use Rattle.class.specs.declared.Lower.{Lower as CodeLower}
-use Rattle.class.specs.declared.Lower.TheVariants.{None as CodeNone, Edge as CodeEdge}
 
 -- the left record of the edge next below, with its number
 pub record Neighbour (P : Type 0) : Type 0 where
@@ -22,12 +18,8 @@ pub record Neighbour (P : Type 0) : Type 0 where
   pub event : Event P
   pub vertical : Bool
 
-pub data Lower (P : Type 0) : Type 0 where
-  None : Lower P
-  Edge : Neighbour P → Lower P
-
 -- a record with these flags, below link and transition, and all else as it was
-unfoldable pub written : {P : Type 0} → Event P → Bool → Bool → Link → ResultTransition → Event P
+unfoldable pub written : {P : Type 0} → Event P → Bool → Bool → Option ℕ → ResultTransition → Event P
 written e in_out other_in_out below transition =
     record {
       point = e.point;
@@ -61,13 +53,13 @@ abbrev pub is_in_result : {P : Type 0} → Event P → Bool
 is_in_result e = has_transition e.transition
 
 -- the neighbour if it is in the result and not vertical, else what it has below it
-unfoldable pub below_above : {P : Type 0} → Neighbour P → Link
-below_above n = cond n.vertical n.event.below (cond (is_in_result n.event) (To n.number) n.event.below)
+unfoldable pub below_above : {P : Type 0} → Neighbour P → Option ℕ
+below_above n = cond n.vertical n.event.below (cond (is_in_result n.event) (Some n.number) n.event.below)
 
 -- flags and below link set; with nothing below, the edge enters its own layer and is outside the other
-unfoldable pub set_from_lower : {P : Type 0} → Event P → Lower P → Event P
-set_from_lower e None = written e false true NoLink e.transition
-set_from_lower e (Edge n) =
+unfoldable pub set_from_lower : {P : Type 0} → Event P → Option (Neighbour P) → Event P
+set_from_lower e None = written e false true None e.transition
+set_from_lower e (Some n) =
     let prev = n.event in
     let same = beq e.subject prev.subject in
     written e (in_out_above same prev.in_out prev.other_in_out) (other_in_out_above same n.vertical prev.in_out prev.other_in_out) (below_above n) e.transition
@@ -125,7 +117,7 @@ transition_in op e = cond (in_result op e) (direction op e) NoTransition
 abbrev pub decided : {P : Type 0} → Operation → Event P → Event P
 decided op e = written e e.in_out e.other_in_out e.below (transition_in op e)
 
-unfoldable pub fields : {P : Type 0} → Operation → Event P → Lower P → Event P
+unfoldable pub fields : {P : Type 0} → Operation → Event P → Option (Neighbour P) → Event P
 fields op e lower = decided op (set_from_lower e lower)
 
 -- ---- the structs of the code, at binary64
@@ -133,6 +125,6 @@ fields op e lower = decided op (set_from_lower e lower)
 abbrev pub shown_neighbour : CodeNeighbour → Neighbour Point
 shown_neighbour n = record { number = n.number; event = shown n.event; vertical = n.vertical }
 
-abbrev pub shown_lower : CodeLower → Lower Point
-shown_lower CodeNone = None
-shown_lower (CodeEdge n) = Edge (shown_neighbour n)
+abbrev pub shown_lower : Option CodeNeighbour → Option (Neighbour Point)
+shown_lower None = None
+shown_lower (Some n) = Some (shown_neighbour n)

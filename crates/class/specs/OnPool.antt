@@ -1,13 +1,11 @@
 -- Edge class on the pool: the record `e` is computed anew from the one that `lower` names, and stored. Every number has an answer, since a record
 -- outside the pool reads as a blank one and is not stored.
-use Rattle.std.specs.Prelude.{Bool, ℕ}
+use Rattle.std.specs.Prelude.{Bool, ℕ, Option, Some, None}
 use Rattle.numbers.specs.declared.Point.{Point}
 use Rattle.events.specs.Binary64.{at_binary64}
-use Rattle.events.specs.declared.Link.{Link}
-use Rattle.events.specs.declared.Link.TheVariants.{None as NoLink, To}
 use Rattle.events.specs.Pool.{Pool, row_at, store}
 use Rattle.class.specs.declared.Operation.{Operation}
-use Rattle.class.specs.Class.{Neighbour, Lower, None, Edge, fields}
+use Rattle.class.specs.Class.{Neighbour, fields}
 
 -- a record and its partner have one x, by value
 abbrev pub vertical_at : Pool → ℕ → Bool
@@ -16,9 +14,9 @@ vertical_at p n = at_binary64.same_x (row_at p n).point (row_at p (row_at p n).p
 unfoldable pub neighbour_at : Pool → ℕ → Neighbour Point
 neighbour_at p n = record { number = n; event = row_at p n; vertical = vertical_at p n }
 
-unfoldable pub lower_at : Pool → Link → Lower Point
-lower_at p NoLink = None
-lower_at p (To n) = Edge (neighbour_at p n)
+unfoldable pub lower_at : Pool → Option ℕ → Option (Neighbour Point)
+lower_at p None = None
+lower_at p (Some n) = Some (neighbour_at p n)
 
-unfoldable pub classified_at : Operation → Pool → ℕ → Link → Pool
+unfoldable pub classified_at : Operation → Pool → ℕ → Option ℕ → Pool
 classified_at op p e lower = store p e (fields op (row_at p e) (lower_at p lower))

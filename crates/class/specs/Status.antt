@@ -1,17 +1,15 @@
 -- Edges one above the other, as in a status, over any kind of point: what flags and below link tell of the edges below, where each edge was computed from
 -- the one next below it. A list has its uppermost edge first.
-use Rattle.std.specs.Prelude.{◌≡◌, Bool, true, false, cond, not, ◌&&◌, ◌||◌, List, [], ◌∷◌, ℕ, zero, suc}
+use Rattle.std.specs.Prelude.{◌≡◌, Bool, true, false, cond, not, ◌&&◌, ◌||◌, List, [], ◌∷◌, ℕ, zero, suc, Option, Some, None}
 use Rattle.std.specs.Bool.{beq}
-use Rattle.events.specs.declared.Link.{Link}
-use Rattle.events.specs.declared.Link.TheVariants.{None as NoLink, To}
 use Rattle.events.specs.Event.{Event}
 use Rattle.class.specs.declared.Operation.{Operation}
-use Rattle.class.specs.Class.{Neighbour, Lower, None, Edge, is_in_result, fields}
+use Rattle.class.specs.Class.{Neighbour, is_in_result, fields}
 use Rattle.class.specs.Truth.{Place, place, Sides}
 
-unfoldable pub next_below : {P : Type 0} → List (Neighbour P) → Lower P
+unfoldable pub next_below : {P : Type 0} → List (Neighbour P) → Option (Neighbour P)
 next_below [] = None
-next_below (n ∷ rest) = Edge n
+next_below (n ∷ rest) = Some n
 
 -- each edge is what is computed for it from the one next below, the lowest from none
 unfoldable pub Computed : {P : Type 0} → Operation → List (Neighbour P) → Type 0
@@ -45,9 +43,9 @@ is_odd zero = false
 is_odd (suc n) = not (is_odd n)
 
 -- the nearest edge below that is in the result and not vertical
-unfoldable pub nearest : {P : Type 0} → List (Neighbour P) → Link
-nearest [] = NoLink
-nearest (n ∷ rest) = cond (is_in_result n.event && not n.vertical) (To n.number) (nearest rest)
+unfoldable pub nearest : {P : Type 0} → List (Neighbour P) → Option ℕ
+nearest [] = None
+nearest (n ∷ rest) = cond (is_in_result n.event && not n.vertical) (Some n.number) (nearest rest)
 
 -- ---- what a record tells of it
 

@@ -7,9 +7,9 @@ ghost use Rattle.std.specs.Prelude.{◌≡◌};
 ghost use Rattle.events.specs.Event.{shown};
 ghost use Rattle.class.specs.Class.{shown_neighbour, shown_lower, written, is_in_result, below_above, set_from_lower, in_result, normal_in_result, holds_above, direction, fields};
 
-use events::{EdgeType, Event, Link, ResultTransition};
+use events::{EdgeType, Event, ResultTransition};
 
-#[derive(Clone, Copy)]
+#[derive(Clone, Copy, Debug, PartialEq, Eq)]
 pub enum Operation {
     Intersection,
     Difference,
@@ -25,18 +25,12 @@ pub struct Neighbour {
     pub vertical: bool,
 }
 
-#[derive(Clone, Copy)]
-pub enum Lower {
-    None,
-    Edge(Neighbour),
-}
-
 // The record with these flags, below link and transition.
 fn with_fields(
     event: Event,
     in_out: bool,
     other_in_out: bool,
-    below: Link,
+    below: Option<u32>,
     transition: ResultTransition,
 ) -> Event
     ensures { shown result ≡ written (shown event) in_out other_in_out below transition }
@@ -60,19 +54,15 @@ fn with_fields(
 }
 
 // What the record itself says.
+#[tactic(auto, unfolding(events::specs::Event::has_transition))]
 pub fn is_in_result(event: Event) -> bool
     ensures { result ≡ is_in_result (shown event) }
 {
-    let transition = event.transition;
-    match transition {
-        ResultTransition::None => false,
-        ResultTransition::InOut => true,
-        ResultTransition::OutIn => true,
-    }
+    event.transition != ResultTransition::None
 }
 
 // The neighbour if it is in the result and not vertical, else what it has below it.
-fn below_above(lower: Neighbour) -> Link
+fn below_above(lower: Neighbour) -> Option<u32>
     ensures { result ≡ below_above (shown_neighbour lower) }
 {
     let prev = lower.event;
@@ -81,19 +71,19 @@ fn below_above(lower: Neighbour) -> Link
         return below;
     }
     if is_in_result(prev) {
-        return Link::To(lower.number);
+        return Some(lower.number);
     }
     below
 }
 
 // Flags and below link from the lower neighbour.
-fn set_from_lower(event: Event, lower: Lower) -> Event
+fn set_from_lower(event: Event, lower: Option<Neighbour>) -> Event
     ensures { shown result ≡ set_from_lower (shown event) (shown_lower lower) }
 {
     let transition = event.transition;
     match lower {
-        Lower::None => with_fields(event, false, true, Link::None, transition),
-        Lower::Edge(n) => {
+        None => with_fields(event, false, true, None, transition),
+        Some(n) => {
             let prev = n.event;
             let below = below_above(n);
             if event.subject == prev.subject {
@@ -108,7 +98,7 @@ fn set_from_lower(event: Event, lower: Lower) -> Event
 }
 
 // The record with its class computed anew from the edge next below.
-pub fn compute_fields(event: Event, lower: Lower, operation: Operation) -> Event
+pub fn compute_fields(event: Event, lower: Option<Neighbour>, operation: Operation) -> Event
     ensures { shown result ≡ fields operation (shown event) (shown_lower lower) }
 {
     let e = set_from_lower(event, lower);

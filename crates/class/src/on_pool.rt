@@ -4,8 +4,7 @@ ghost use Rattle.events.specs.Pool.{pool};
 ghost use Rattle.class.specs.Class.{shown_neighbour, shown_lower};
 ghost use Rattle.class.specs.OnPool.{neighbour_at, lower_at, classified_at};
 
-use crate::{Lower, Neighbour, Operation};
-use events::Link;
+use crate::{Neighbour, Operation};
 use events::points::same_x;
 use events::pool::{read_event, store_event};
 
@@ -22,12 +21,12 @@ fn neighbour_at(points: &[[u64; 2]], marks: &[[u32; 12]], number: u32) -> Neighb
     }
 }
 
-fn lower_at(points: &[[u64; 2]], marks: &[[u32; 12]], lower: Link) -> Lower
+fn lower_at(points: &[[u64; 2]], marks: &[[u32; 12]], lower: Option<u32>) -> Option<Neighbour>
     ensures { shown_lower result ≡ lower_at (pool points.now marks.now) lower }
 {
     match lower {
-        Link::None => Lower::None,
-        Link::To(n) => Lower::Edge(neighbour_at(points, marks, n)),
+        None => None,
+        Some(n) => Some(neighbour_at(points, marks, n)),
     }
 }
 
@@ -36,7 +35,7 @@ pub fn compute_fields_at(
     points: &mut [[u64; 2]],
     marks: &mut [[u32; 12]],
     e: u32,
-    lower: Link,
+    lower: Option<u32>,
     operation: Operation,
 )
     ensures { pool points.new marks.new ≡ classified_at operation (pool points.old marks.old) e lower }

@@ -1,4 +1,6 @@
 -- A contour number is stored over the record that is there, which says nothing else anew: done, stopped by 9 or refused, no other number of the pool moves.
+use Rattle.std.proofs.Common.{Err, Ok, Option}
+use Rattle.refusals.specs.Refusals.{Verdict}
 use mathlib.Core.Path.{◌≡◌, refl, sym, ap, ◌∙◌, subst}
 use mathlib.Core.Bool.{Bool, true, false}
 use mathlib.Core.List.{List, [], ◌∷◌}
@@ -9,15 +11,12 @@ use borrow.Author.Tests.{ltb-true, ltb-false}
 use lib.Dec.{ltb}
 use lib.ListN.{length}
 use Rattle.numbers.specs.declared.Point.{Point}
-use Rattle.events.specs.declared.Link.{Link}
 use Rattle.events.specs.Binary64.{at_binary64}
 use Rattle.events.specs.Event.{Event}
 use Rattle.events.specs.Pool.{Pool, row_at, stored}
 use Rattle.events.specs.Lent.{among, AsLentBut}
 use Rattle.events.proofs.Stored.{pool-stored}
 use Rattle.events.proofs.Lent.{twelve, Agree, left, subject, ring, partner, there, below, edge_type, transition, in_out, other_in_out, numbered, contour, lent-here, lent-away, lent_same, lent-then, then-lent}
-use Rattle.checks.specs.declared.Check.{Check}
-use Rattle.checks.specs.declared.Check.TheVariants.{Passed, Refused}
 use Rattle.contours.specs.Result.{ordered}
 use Rattle.contours.specs.Contours.{Answer, done, halted}
 use Rattle.contours.specs.Accept.{accept}
@@ -31,17 +30,17 @@ use Rattle.connection.specs.OnlyNumbers.{OnlyNumbers}
 -- ---- what a record says with a contour number
 
 -- its own
-nothing : {P : Type 0} (e : Event P) (l : Link) → e.contour ≡ l → (k : ℕ) → k < 12 → among k [] ≡ false → Agree e (with_contour l e) k
+nothing : {P : Type 0} (e : Event P) (l : Option ℕ) → e.contour ≡ l → (k : ℕ) → k < 12 → among k [] ≡ false → Agree e (with_contour l e) k
 unfolding with_contour
 nothing e l q = twelve (λ k. among k [] ≡ false → Agree e (with_contour l e) k) (λ h. left refl) (λ h. subject refl) (λ h. ring refl) (λ h. partner refl) (λ h. there refl) (λ h. below refl) (λ h. edge_type refl) (λ h. transition refl) (λ h. in_out refl) (λ h. other_in_out refl) (λ h. numbered q) (λ h. contour q)
 
 -- ---- all records settled
 
 -- a record has these marks as lent where they say the same of it with its number
-abbrev Saying : (number : ℕ → Link) → Pool → List ℕ → ℕ → Type 0
+abbrev Saying : (number : ℕ → Option ℕ) → Pool → List ℕ → ℕ → Type 0
 Saying number s ks r = (k : ℕ) → k < 12 → among k ks ≡ false → Agree (stored.row_at s r) (with_contour (number r) (stored.row_at s r)) k
 
-module _ (number : ℕ → Link) (s : Pool) where
+module _ (number : ℕ → Option ℕ) (s : Pool) where
   abbrev to : ℕ → Pool
   to k = settled stored number k s
 
@@ -102,6 +101,6 @@ only-numbers p list l = go (accept at_binary64 (stored.row_at p) (stored.size p)
     by (done ms cs) = settled_only (number_in (ordered (stored.row_at p) at_binary64 list) ms) p
     by (halted number i ms cs) = settled_only (number_in (ordered (stored.row_at p) at_binary64 list) ms) p
 
-    go : (x : Check) → OnlyNumbers p (after (after_checks at_binary64 stored p list x) p l).pool
-    go Passed = by (traced at_binary64 stored p list)
-    go (Refused r) = same-pool p
+    go : (x : Verdict) → OnlyNumbers p (after (after_checks at_binary64 stored p list x) p l).pool
+    go (Ok _) = by (traced at_binary64 stored p list)
+    go (Err r) = same-pool p

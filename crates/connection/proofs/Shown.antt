@@ -1,6 +1,6 @@
 -- Corners lie one contour's after another's, and each row tells where its own begin and end: so the view of a row shows that contour and no other.
+use Rattle.std.proofs.Common.{Some}
 use mathlib.Core.Path.{◌≡◌, refl, sym, ap, ◌∙◌}
-use mathlib.Core.Option.{some}
 use mathlib.Core.List.{List, [], ◌∷◌, ◌++◌, map, append_assoc}
 use Prim.Native.Nat.{ℕ, zero, suc, ◌+◌, ◌<◌, ◌≤◌}
 use native.Mathlib.Omega.{arith}
@@ -16,7 +16,6 @@ use Rattle.contours.specs.Walls.{told_of}
 use Rattle.contours.proofs.AtBinary64.{enough}
 use Rattle.rows.specs.Rows.{point_code}
 use Rattle.tracing.specs.Tracing.{corners_in, holes_in, row_in, rows_in}
-use Rattle.view.specs.declared.Corner.TheVariants.{At}
 use Rattle.view.specs.View.{part_of, point_at}
 use Rattle.view.proofs.Parts.{laid-at, corner-within, corner-beyond}
 use Rattle.connection.specs.Connection.{Lent, room_of, written, after, connect_edges}
@@ -85,18 +84,18 @@ module _ (os : List (Outline Point)) (l : Lent) (contours : length os ≤ length
   written-shown =
       record {
         part = part-is;
-        corner = λ c i d k m. rw (part-is c k) (corner-within (map point_code (corners_of os c)) i (omega (arith, length-map (corners_of os c) point_code)) ∙ ap At (point-of (corners_of os c) i d m));
+        corner = λ c i d k m. rw (part-is c k) (corner-within (map point_code (corners_of os c)) i (omega (arith, length-map (corners_of os c) point_code)) ∙ ap Some (point-of (corners_of os c) i d m));
         beyond = λ c i k m. rw (part-is c k) (corner-beyond (map point_code (corners_of os c)) i (omega (arith, length-map (corners_of os c) point_code)));
       }
 
 -- Of the call, also where refusal 9 stopped it: the view of every contour that was given shows that contour.
-pub shown : (p : Pool) (list : List ℕ) (l : Lent) (f : Finished Point Pool) → given (connect_pool p list (room_of l)) ≡ some f → Shown f.outlines (connect_edges p list l).outlines
+pub shown : (p : Pool) (list : List ℕ) (l : Lent) (f : Finished Point Pool) → given (connect_pool p list (room_of l)) ≡ Some f → Shown f.outlines (connect_edges p list l).outlines
 unfolding connect_edges after given
 shown p list l f e =
     let room = enough p list (room_of l) f e in
     go (connect_pool p list (room_of l)) e (written-shown f.outlines l room.0 room.1)
   where
-    go : (x : C.Outcome Point Pool) → given x ≡ some f → Shown f.outlines (written f.outlines l) → Shown f.outlines (after x p l).outlines
+    go : (x : C.Outcome Point Pool) → given x ≡ Some f → Shown f.outlines (written f.outlines l) → Shown f.outlines (after x p l).outlines
     go (refused r) q s = let z : ◌≡◌ {A = ℕ} 0 1 = cc in absurd (omega arith)
     go (stopped r g) q s = let z : g ≡ f = cc in rw z s
     go (connected g) q s = let z : g ≡ f = cc in rw z s

@@ -1,7 +1,9 @@
 -- Demand 3 as one statement about the call: a list of event records that connection accepts and connects, with no two result edges from a shared end
 -- in one direction, gives the same contours, corners, parents and depths, bit for bit, however its records are numbered and listed. If every point ends
 -- an even number of result edges, every contour closes and each result edge is walked in exactly one contour, once.
-use Rattle.std.specs.Prelude.{◌≡◌, ◌≢◌, true, ℕ, ◌<◌, ◌≤◌, length}
+use Rattle.std.specs.Prelude.{◌≡◌, ◌≢◌, true, ℕ, ◌<◌, ◌≤◌, length, Err, Ok}
+use Rattle.refusals.specs.declared.Reason.TheVariants as Reason
+use Rattle.refusals.specs.Refusals.{Verdict}
 use mathlib.Core.List.{List, [], Memᴰ}
 use Rattle.refusals.specs.declared.Refusal.{Refusal}
 use Rattle.numbers.specs.declared.Point.{Point}
@@ -13,8 +15,6 @@ use Rattle.contours.specs.Outline.{Outline, closes, corner_count, hole_count}
 use Rattle.contours.specs.Renaming.{RenumberedPool, Relisted, NoneOneWay, EvenEnds}
 use Rattle.contours.specs.Walls.{told_of, unclosed_among, OneToOne}
 use Rattle.connection.specs.declared.Connected.{Connected}
-use Rattle.connection.specs.declared.Outcome.{Outcome}
-use Rattle.connection.specs.declared.Outcome.TheVariants.{Done, Refused}
 use Rattle.connection.specs.Connection.{Lent, written, told, After, left, connect_edges}
 
 -- ---- a call that is done; x is what is left of it
@@ -32,7 +32,7 @@ AllClose os = (o : Outline Point) → Memᴰ o os → closes (same at_binary64) 
 pub record Outlined (p : Pool) (list : List ℕ) (l : Lent) (x : After) : Type 0 where
   pub outlines : List (Outline Point)
   -- the answer counts them, their corners, their holes and the open ones
-  pub answer : x.answer ≡ told outlines Done
+  pub answer : x.answer ≡ told outlines (Ok tt)
   -- and the arrays hold all of them
   pub arrays : x.outlines ≡ written outlines l
   pub room : Holds outlines l
@@ -46,9 +46,9 @@ pub record Outlined (p : Pool) (list : List ℕ) (l : Lent) (x : After) : Type 0
 -- ---- another numbering and another listing; x is left of the one call and y of the other, with the same arrays lent
 
 -- a refusal while contours are made tells the renamed record
-unfoldable pub renamed_in : (ℕ → ℕ) → Outcome → Outcome
-renamed_in ρ Done = Done
-renamed_in ρ (Refused r) = Refused (record { number = r.number; place = ρ r.place })
+unfoldable pub renamed_in : (ℕ → ℕ) → Verdict → Verdict
+renamed_in ρ (Ok _) = Ok tt
+renamed_in ρ (Err r) = Err (record { reason = r.reason; place = ρ r.place })
 
 unfoldable pub renamed : (ℕ → ℕ) → Connected → Connected
 renamed ρ a = record { contours = a.contours; corners = a.corners; holes = a.holes; «open» = a.«open»; outcome = renamed_in ρ a.outcome }
@@ -62,20 +62,20 @@ pub record SameCall (ρ : ℕ → ℕ) (n : ℕ) (x y : After) : Type 0 where
 -- refused by one number; both pools and the arrays stay as lent
 pub record SameRefusal (p p' : Pool) (l : Lent) (r : Refusal) (x y : After) : Type 0 where
   pub other : Refusal
-  pub number : other.number ≡ r.number
-  pub first : x ≡ left (told [] (Refused r)) p l
-  pub second : y ≡ left (told [] (Refused other)) p' l
+  pub reason : other.reason ≡ r.reason
+  pub first : x ≡ left (told [] (Err r)) p l
+  pub second : y ≡ left (told [] (Err other)) p' l
 
 pub record AnyOrder (ρ : ℕ → ℕ) (p p' : Pool) (list : List ℕ) (l : Lent) (x y : After) : Type 0 where
   -- no two result edges from a shared end in one direction: done, or refused by 9, as it is
-  pub done : NoneOneWay at_binary64 (row_at p) list → x.answer.outcome ≡ Done → SameCall ρ (size p) x y
-  pub by_9 : NoneOneWay at_binary64 (row_at p) list → (r : Refusal) → x.answer.outcome ≡ Refused r → r.number ≡ 9 → SameCall ρ (size p) x y
+  pub done : NoneOneWay at_binary64 (row_at p) list → x.answer.outcome ≡ Ok tt → SameCall ρ (size p) x y
+  pub by_9 : NoneOneWay at_binary64 (row_at p) list → (r : Refusal) → x.answer.outcome ≡ Err r → r.reason ≡ Reason.Loose → SameCall ρ (size p) x y
   -- whatever the directions: refused by 1, 2, 4, 8 or 5, as it is
-  pub by_checks : (r : Refusal) → x.answer.outcome ≡ Refused r → r.number ≢ 9 → SameRefusal p p' l r x y
+  pub by_checks : (r : Refusal) → x.answer.outcome ≡ Err r → r.reason ≢ Reason.Loose → SameRefusal p p' l r x y
 
 -- ---- the call
 
 pub record Demand (p : Pool) (list : List ℕ) (l : Lent) : Type 0 where
-  pub outlined : (connect_edges p list l).answer.outcome ≡ Done → Outlined p list l (connect_edges p list l)
+  pub outlined : (connect_edges p list l).answer.outcome ≡ Ok tt → Outlined p list l (connect_edges p list l)
   pub any_order : (ρ : ℕ → ℕ) (p' : Pool) (list' : List ℕ) → RenumberedPool ρ p p' → Relisted ρ list list'
       → AnyOrder ρ p p' list l (connect_edges p list l) (connect_edges p' list' l)

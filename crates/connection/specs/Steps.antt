@@ -1,5 +1,7 @@
 -- The parts of the call: the contracts of private functions.
-use Rattle.std.specs.Prelude.{cond, List, ℕ, ◌≤◌, length, get_or, eqb}
+use Rattle.refusals.specs.declared.Reason.TheVariants as Reason
+use Rattle.std.specs.Prelude.{cond, List, ℕ, ◌≤◌, length, get_or, eqb, Err, Ok}
+use Rattle.refusals.specs.Refusals.{Verdict}
 use Rattle.events.specs.Binary64.{at_binary64}
 use Rattle.events.specs.Pool.{Pool, stored}
 use Rattle.checks.specs.Checks.{max_events}
@@ -9,8 +11,6 @@ use Rattle.tracing.specs.declared.Traced.{Traced}
 use Rattle.tracing.specs.Tracing.{Sheet}
 use Rattle.numbering.specs.Numbering.{settled_by}
 use Rattle.connection.specs.declared.Connected.{Connected}
-use Rattle.connection.specs.declared.Outcome.{Outcome}
-use Rattle.connection.specs.declared.Outcome.TheVariants.{Done, Refused}
 use Rattle.connection.specs.Connection.{Lent, lent, After, left, after}
 
 -- ---- what is told of a traced table, whose rows are those of the records o
@@ -18,8 +18,8 @@ use Rattle.connection.specs.Connection.{Lent, lent, After, left, after}
 unfoldable pub record_at : List ℕ → ℕ → ℕ
 record_at o i = get_or o i 0
 
-unfoldable pub outcome_in : List ℕ → ℕ → ℕ → Outcome
-outcome_in o stop i = cond (eqb stop 0) Done (Refused (record { number = stop; place = record_at o i }))
+unfoldable pub outcome_in : List ℕ → ℕ → ℕ → Verdict
+outcome_in o stop i = cond (eqb stop 0) (Ok tt) (Err (record { reason = Reason.Loose; place = record_at o i }))
 
 unfoldable pub answer_in : List ℕ → Traced → Connected
 answer_in o t =

@@ -1,23 +1,16 @@
 // Connection (`connect_edges.rs`) as a call: the checks, the table, the contours, their holes, and contour numbers in the pool.
 #![tactic(auto)]
 
-ghost use Rattle.std.specs.Prelude.{◌≡◌, []};
+ghost use Rattle.std.specs.Prelude.{◌≡◌, [], Err};
 ghost use Rattle.events.specs.Pool.{pool};
 ghost use Rattle.connection.specs.Connection.{lent, told, left, connect_edges};
 
 use acceptance::accept;
-use checks::Check;
 use refusals::Refusal;
 use work::connect_accepted;
 
 mod answer;
 mod work;
-
-#[derive(Clone, Copy)]
-pub enum Outcome {
-    Done,
-    Refused(Refusal),
-}
 
 // What was connected, to the end or until it was refused.
 #[derive(Clone, Copy)]
@@ -28,18 +21,18 @@ pub struct Connected {
     pub holes: u32,
     // The contours whose first and last corners differ.
     pub open: u32,
-    pub outcome: Outcome,
+    pub outcome: Result<(), Refusal>,
 }
 
 fn none_connected(refusal: Refusal) -> Connected
-    ensures { result ≡ told [] (Outcome.Refused refusal) }
+    ensures { result ≡ told [] (Err refusal) }
 {
     Connected {
         contours: 0,
         corners: 0,
         holes: 0,
         open: 0,
-        outcome: Outcome::Refused(refusal),
+        outcome: Err(refusal),
     }
 }
 
@@ -62,7 +55,7 @@ pub fn connect_edges(
         contours.len(),
         holes.len(),
     ) {
-        Check::Passed => connect_accepted(points, marks, list, corners, contours, holes),
-        Check::Refused(refusal) => none_connected(refusal),
+        Ok(()) => connect_accepted(points, marks, list, corners, contours, holes),
+        Err(refusal) => none_connected(refusal),
     }
 }

@@ -1,7 +1,7 @@
 // Connection of a list that has passed the checks, by way of its table.
 ghost use Rattle.std.specs.Prelude.{◌≡◌, ◌≤◌, length};
 ghost use Rattle.events.specs.Pool.{pool};
-ghost use Rattle.checks.specs.Checks.{few_events};
+ghost use Rattle.checks.specs.Checks.{max_events};
 ghost use Rattle.rows.specs.Rows as R;
 ghost use Rattle.tracing.specs.Tracing.{traced_on};
 ghost use Rattle.connection.specs.Connection.{lent, left};
@@ -15,6 +15,7 @@ use tabulation::tabulate;
 use tracing::trace;
 
 // The table stands: `order` and `places` tell records by positions and positions by records.
+#[tactic(auto, unfolding(crate::specs::Steps::laid_down))]
 fn connect_table(
     points: &[[u64; 2]],
     marks: &mut [[u32; 12]],
@@ -66,8 +67,8 @@ fn connect_in(
     )
 }
 
-// With places for a short list of a small pool.
-fn connect_few(
+// With places for LIST entries and a pool of POOL records.
+fn connect_sized<const LIST: usize, const POOL: usize>(
     points: &[[u64; 2]],
     marks: &mut [[u32; 12]],
     list: &[u32],
@@ -75,84 +76,15 @@ fn connect_few(
     contours: &mut [[u32; 6]],
     holes: &mut [u32],
 ) -> Connected
-    requires { Small (pool points.now marks.old) list.now × (length list.now ≤ few_events) × (length points.now ≤ few_events) }
+    requires limits { (LIST ≤ max_events) × (POOL ≤ max_events) }
+    requires enough { (length list.now ≤ LIST) × (length points.now ≤ POOL) }
     ensures { left result (pool points.now marks.new) (lent corners.new contours.new holes.new) ≡ connect_accepted (pool points.now marks.old) list.now (lent corners.old contours.old holes.old) }
 {
-    let mut order = [0u32; FEW];
-    let mut places = [0u32; FEW];
-    let row = [0u32; 4];
-    let mut rows = [row; FEW];
-    let point = [0; 2];
-    let mut at = [point; FEW];
-    let mut walked = [0u32; FEW];
-    connect_in(
-        points,
-        marks,
-        list,
-        corners,
-        contours,
-        holes,
-        &mut order,
-        &mut places,
-        &mut rows,
-        &mut at,
-        &mut walked,
-    )
-}
-
-// With places for a short list of any pool.
-fn connect_short(
-    points: &[[u64; 2]],
-    marks: &mut [[u32; 12]],
-    list: &[u32],
-    corners: &mut [[u64; 2]],
-    contours: &mut [[u32; 6]],
-    holes: &mut [u32],
-) -> Connected
-    requires { Small (pool points.now marks.old) list.now × (length list.now ≤ few_events) }
-    ensures { left result (pool points.now marks.new) (lent corners.new contours.new holes.new) ≡ connect_accepted (pool points.now marks.old) list.now (lent corners.old contours.old holes.old) }
-{
-    let mut order = [0u32; FEW];
-    let mut places = [0u32; MAX_EVENTS];
-    let row = [0u32; 4];
-    let mut rows = [row; FEW];
-    let point = [0; 2];
-    let mut at = [point; FEW];
-    let mut walked = [0u32; FEW];
-    connect_in(
-        points,
-        marks,
-        list,
-        corners,
-        contours,
-        holes,
-        &mut order,
-        &mut places,
-        &mut rows,
-        &mut at,
-        &mut walked,
-    )
-}
-
-// With places for any list of any pool.
-fn connect_many(
-    points: &[[u64; 2]],
-    marks: &mut [[u32; 12]],
-    list: &[u32],
-    corners: &mut [[u64; 2]],
-    contours: &mut [[u32; 6]],
-    holes: &mut [u32],
-) -> Connected
-    requires { Small (pool points.now marks.old) list.now }
-    ensures { left result (pool points.now marks.new) (lent corners.new contours.new holes.new) ≡ connect_accepted (pool points.now marks.old) list.now (lent corners.old contours.old holes.old) }
-{
-    let mut order = [0u32; MAX_EVENTS];
-    let mut places = [0u32; MAX_EVENTS];
-    let row = [0u32; 4];
-    let mut rows = [row; MAX_EVENTS];
-    let point = [0; 2];
-    let mut at = [point; MAX_EVENTS];
-    let mut walked = [0u32; MAX_EVENTS];
+    let mut order = [0u32; LIST];
+    let mut places = [0u32; POOL];
+    let mut rows = [[0u32; 4]; LIST];
+    let mut at = [[0; 2]; LIST];
+    let mut walked = [0u32; LIST];
     connect_in(
         points,
         marks,
@@ -182,9 +114,9 @@ pub fn connect_accepted(
 {
     if list.len() <= FEW {
         if points.len() <= FEW {
-            return connect_few(points, marks, list, corners, contours, holes);
+            return connect_sized::<FEW, FEW>(points, marks, list, corners, contours, holes);
         }
-        return connect_short(points, marks, list, corners, contours, holes);
+        return connect_sized::<FEW, MAX_EVENTS>(points, marks, list, corners, contours, holes);
     }
-    connect_many(points, marks, list, corners, contours, holes)
+    connect_sized::<MAX_EVENTS, MAX_EVENTS>(points, marks, list, corners, contours, holes)
 }

@@ -1,8 +1,11 @@
 -- What the checks leave: each listed record is sound and listed once, its partner's point is fit, and with a result event its other end is listed.
+use Rattle.refusals.specs.Refusals.{passed}
+use Rattle.refusals.specs.declared.Reason.{Reason}
+use Rattle.std.proofs.Common.{Err, Ok, Option, None, Some}
+use Rattle.refusals.specs.declared.Reason.TheVariants as Reason
 use mathlib.Core.Path.{◌≡◌, refl, sym, ap, ◌∙◌}
 use mathlib.Core.Logic.{◌≢◌, ◌⊎◌, inl, inr}
 use mathlib.Core.Bool.{Bool, true, false, not, cond, ◌&&◌, ◌||◌, and-false, true≢false, false≢true}
-use mathlib.Core.Option.{Option, none, some}
 use mathlib.Core.List.Memᴰ
 use mathlib.Core.List.{List, [], ◌∷◌, Memᴰ}
 use Prim.Native.Nat.{ℕ, ◌≤◌, ◌<◌}
@@ -12,7 +15,6 @@ use lib.Dec.{eqb}
 use Rattle.refusals.specs.declared.Refusal.{Refusal}
 use Rattle.events.specs.Coordinates.{Coordinates}
 use Rattle.events.specs.Event.{Event}
-use Rattle.checks.specs.declared.Check.TheVariants.{Passed, Refused}
 use Rattle.checks.specs.Checks.{max_events, outside, unfit_at, mistaken, named}
 use Rattle.checks.specs.Sound.{Sized, Sound}
 use Rattle.checks.proofs.Told.{not-both, both-passed, passed-both}
@@ -25,31 +27,31 @@ use Rattle.contours.proofs.Partners.{own-named, partner-named, named-all}
 
 -- ---- one check over a list: it passes exactly if the test strikes no member
 
-pub none-struck : (test : ℕ → Bool) (l : List ℕ) → lowest test l ≡ none → (r : ℕ) → Memᴰ r l → test r ≡ false
+pub none-struck : (test : ℕ → Bool) (l : List ℕ) → lowest test l ≡ None → (r : ℕ) → Memᴰ r l → test r ≡ false
 unfolding lowest
 none-struck test [] e r m = absurd (Memᴰ.not-nil m)
 none-struck test (x ∷ l) e r m = go (test x) refl e (Memᴰ.cases_cons m) (λ q. none-struck test l q r)
   where
-    go : (t : Bool) → test x ≡ t → cond t (some (at_most x (lowest test l))) (lowest test l) ≡ none → (r ≡ x) ⊎ Memᴰ r l → (lowest test l ≡ none → Memᴰ r l → test r ≡ false) → test r ≡ false
+    go : (t : Bool) → test x ≡ t → cond t (Some (at_most x (lowest test l))) (lowest test l) ≡ None → (r ≡ x) ⊎ Memᴰ r l → (lowest test l ≡ None → Memᴰ r l → test r ≡ false) → test r ≡ false
     go true q e d h = let z : ◌≡◌ {A = Bool} true false = cc in absurd (true≢false z)
     go false q e (inl s) h = ap test s ∙ q
     go false q e (inr k) h = h e k
 
-pub struck-none : (test : ℕ → Bool) (l : List ℕ) → ((r : ℕ) → Memᴰ r l → test r ≡ false) → lowest test l ≡ none
+pub struck-none : (test : ℕ → Bool) (l : List ℕ) → ((r : ℕ) → Memᴰ r l → test r ≡ false) → lowest test l ≡ None
 unfolding lowest
 struck-none test [] h = refl
 struck-none test (x ∷ l) h = rw (h x (Memᴰ.head refl)) (struck-none test l (λ r m. h r (Memᴰ.tail m)))
 
-module _ (number : ℕ) (test : ℕ → Bool) (l : List ℕ) where
-  pub told_none : told_lowest number test l ≡ Passed → (r : ℕ) → Memᴰ r l → test r ≡ false
+module _ (reason : Reason) (test : ℕ → Bool) (l : List ℕ) where
+  pub told_none : told_lowest reason test l ≡ Ok tt → (r : ℕ) → Memᴰ r l → test r ≡ false
   unfolding told_lowest refused_at
   told_none e = go (lowest test l) refl e
     where
-      go : (o : Option ℕ) → lowest test l ≡ o → refused_at number o ≡ Passed → (r : ℕ) → Memᴰ r l → test r ≡ false
-      go none q e = none-struck test l q
-      go (some x) q e = absurd (not-both _ _ e refl)
+      go : (o : Option ℕ) → lowest test l ≡ o → refused_at reason o ≡ Ok tt → (r : ℕ) → Memᴰ r l → test r ≡ false
+      go None q e = none-struck test l q
+      go (Some x) q e = absurd (not-both _ _ e refl)
 
-  pub none_told : ((r : ℕ) → Memᴰ r l → test r ≡ false) → told_lowest number test l ≡ Passed
+  pub none_told : ((r : ℕ) → Memᴰ r l → test r ≡ false) → told_lowest reason test l ≡ Ok tt
   unfolding told_lowest refused_at
   none_told h = rw (struck-none test l h)
 
@@ -123,36 +125,36 @@ and_no : (a b : Bool) → (a ≡ true → b ≡ true) → (a && not b) ≡ false
 and_no true b h = rw (h refl)
 and_no false b h = refl
 
-cond-passed : (t : Bool) (x : Refusal) → cond t (Refused x) Passed ≡ Passed → t ≡ false
+cond-passed : (t : Bool) (x : Refusal) → cond t (Err x) passed ≡ Ok tt → t ≡ false
 cond-passed true x e = absurd (not-both _ _ e refl)
 cond-passed false x e = refl
 
-pub list-short : (list : List ℕ) → list_sized list ≡ Passed → length list ≤ max_events
+pub list-short : (list : List ℕ) → list_sized list ≡ Ok tt → length list ≤ max_events
 unfolding list_sized
 list-short list e = ltb-false max_events (length list) (cond-passed _ _ e)
 
-pub room-passed : (wanted places : ℕ) → room_for wanted places ≡ Passed → wanted ≤ places
+pub room-passed : (wanted places : ℕ) → room_for wanted places ≡ Ok tt → wanted ≤ places
 unfolding room_for
 room-passed wanted places e = ltb-false places wanted (cond-passed _ _ e)
 
-passed-room : (wanted places : ℕ) → wanted ≤ places → room_for wanted places ≡ Passed
+passed-room : (wanted places : ℕ) → wanted ≤ places → room_for wanted places ≡ Ok tt
 unfolding room_for
 passed-room wanted places h = rw (le-ltb places wanted h)
 
 module _ {P : Type 0} (C : Coordinates P) (row : ℕ → Event P) (n : ℕ) (list : List ℕ) where
   -- 2, of the listed records and their partners
   abbrev pub FitEnds : Type 0
-  FitEnds = told_lowest 2 (unfit_at C row n) (named row n list) ≡ Passed
+  FitEnds = told_lowest Reason.Coordinate (unfit_at C row n) (named row n list) ≡ Ok tt
 
   -- 2 and 4
-  sound-all : FitEnds → told_lowest 4 (misplaced C row n list) list ≡ Passed → (r : ℕ) → Memᴰ r list → Sound C row n r
+  sound-all : FitEnds → told_lowest Reason.Link (misplaced C row n list) list ≡ Ok tt → (r : ℕ) → Memᴰ r list → Sound C row n r
   unfolding misplaced
-  sound-all e f r m = sound C row n r (told_none 2 _ (named row n list) e r (own-named row n list r m)) (neither (twice list r) (mistaken C row n r) (told_none 4 (misplaced C row n list) list f r m)).1
+  sound-all e f r m = sound C row n r (told_none Reason.Coordinate _ (named row n list) e r (own-named row n list r m)) (neither (twice list r) (mistaken C row n r) (told_none Reason.Link (misplaced C row n list) list f r m)).1
 
-  pub soundly : FitEnds → told_lowest 4 (misplaced C row n list) list ≡ Passed
+  pub soundly : FitEnds → told_lowest Reason.Link (misplaced C row n list) list ≡ Ok tt
       → ((r : ℕ) → Memᴰ r list → Sound C row n r) × Pairs ◌≢◌ list
   unfolding misplaced
-  soundly e f = (sound-all e f, once-distinct list (λ r m. (neither (twice list r) (mistaken C row n r) (told_none 4 (misplaced C row n list) list f r m)).0))
+  soundly e f = (sound-all e f, once-distinct list (λ r m. (neither (twice list r) (mistaken C row n r) (told_none Reason.Link (misplaced C row n list) list f r m)).0))
 
   fit-inside : (q : ℕ) → q < n → unfit_at C row n q ≡ false → C.fit (row q).point ≡ true
   unfolding unfit_at
@@ -161,9 +163,9 @@ module _ {P : Type 0} (C : Coordinates P) (row : ℕ → Event P) (n : ℕ) (lis
   -- event order reads these points too
   others-fit : FitEnds → ((r : ℕ) → Memᴰ r list → Sound C row n r) → (r : ℕ) → Memᴰ r list → C.fit (row (row r).partner).point ≡ true
   others-fit e h r m =
-      fit-inside (row r).partner (h r m).partner (told_none 2 _ (named row n list) e (row r).partner (partner-named row n list r (h r m).inside m))
+      fit-inside (row r).partner (h r m).partner (told_none Reason.Coordinate _ (named row n list) e (row r).partner (partner-named row n list r (h r m).inside m))
 
-  pub accepted-by : FitEnds → told_lowest 4 (misplaced C row n list) list ≡ Passed → told_lowest 8 (half_listed C row n list) list ≡ Passed
+  pub accepted-by : FitEnds → told_lowest Reason.Link (misplaced C row n list) list ≡ Ok tt → told_lowest Reason.HalfEdge (half_listed C row n list) list ≡ Ok tt
       → Accepted C row n list
   unfolding half_listed
   accepted-by two four eight =
@@ -172,10 +174,10 @@ module _ {P : Type 0} (C : Coordinates P) (row : ℕ → Event P) (n : ℕ) (lis
         each = sounds.0;
         other-fit = others-fit two sounds.0;
         distinct = sounds.1;
-        both = λ r m i. listed_in list _ (both_out (in_result row r) _ i (told_none 8 (half_listed C row n list) list eight r m));
+        both = λ r m i. listed_in list _ (both_out (in_result row r) _ i (told_none Reason.HalfEdge (half_listed C row n list) list eight r m));
       }
 
-  pub accepted : (points marks : ℕ) (room : Room) → accept C row n points marks list room ≡ Passed → Accepted C row n list × Fits C row n list points marks room
+  pub accepted : (points marks : ℕ) (room : Room) → accept C row n points marks list room ≡ Ok tt → Accepted C row n list × Fits C row n list points marks room
   unfolding accept roomy list_sized
   accepted points marks room e =
       let one = both-passed _ _ e in
@@ -200,13 +202,13 @@ module _ {P : Type 0} (C : Coordinates P) (row : ℕ → Event P) (n : ℕ) (lis
   not-unfit q e = rw e (and-false (not (outside n q)))
 
   -- and nothing more is refused
-  pub passes : (points marks : ℕ) (room : Room) → Accepted C row n list → Fits C row n list points marks room → accept C row n points marks list room ≡ Passed
+  pub passes : (points marks : ℕ) (room : Room) → Accepted C row n list → Fits C row n list points marks room → accept C row n points marks list room ≡ Ok tt
   unfolding accept roomy list_sized half_listed misplaced
   passes points marks room a f =
       passed-both _ _ (rw (le-ltb max_events (length list) f.short))
       (passed-both _ _ (passed-sized points marks f.sizes)
-      (passed-both _ _ (none_told 2 _ (named row n list)
+      (passed-both _ _ (none_told Reason.Coordinate _ (named row n list)
       (named-all row n (λ q. unfit_at C row n q ≡ false) list (λ r m. ((a.each r m).inside, (sound-fit C row n r (a.each r m), not-unfit _ (a.other-fit r m))))))
-      (passed-both _ _ (none_told 4 (misplaced C row n list) list (λ r m. rw (distinct-once list a.distinct r, sound-not-mistaken C row n r (a.each r m))))
-      (passed-both _ _ (none_told 8 (half_listed C row n list) list (λ r m. and_no (in_result row r) _ (λ i. in-listed list _ (a.both r m i))))
+      (passed-both _ _ (none_told Reason.Link (misplaced C row n list) list (λ r m. rw (distinct-once list a.distinct r, sound-not-mistaken C row n r (a.each r m))))
+      (passed-both _ _ (none_told Reason.HalfEdge (half_listed C row n list) list (λ r m. and_no (in_result row r) _ (λ i. in-listed list _ (a.both r m i))))
       (passed-both _ _ (passed-room _ _ f.events) (passed-both _ _ (passed-room _ _ f.outlines) (passed-room _ _ f.holes)))))))

@@ -1,8 +1,8 @@
 -- How much there is at most: no more contours and holes than result edges, no more corners than result events. Each edge that is walked takes one
 -- left end and two ends from what is not yet walked.
+use Rattle.std.proofs.Common.{Option, None, Some}
 use mathlib.Core.Path.{◌≡◌, refl, ap}
 use mathlib.Core.Bool.{Bool, true, false, not, cond}
-use mathlib.Core.Option.{Option, none, some}
 use mathlib.Core.List.{List, [], ◌∷◌, ◌++◌}
 use Prim.Native.Nat.{ℕ, zero, suc, ◌+◌, ◌≤◌, ◌<◌}
 use native.Mathlib.Omega.{arith}
@@ -141,7 +141,7 @@ module _ (par : ℕ → Option ℕ) where
   owners c zero p = 0
   owners c (suc k) p = bit (is_parent c p) + owners (suc c) k p
 
-  owners-none : (c k q : ℕ) → q < c → owners c k (some q) ≡ 0
+  owners-none : (c k q : ℕ) → q < c → owners c k (Some q) ≡ 0
   unfolding owners is_parent bit
   owners-none c zero q h = refl
   owners-none c (suc k) q h = rw (ne_eqb q c (λ e. absurd (omega arith))) (omega (arith, owners-none (suc c) k q (omega arith)))
@@ -149,10 +149,10 @@ module _ (par : ℕ → Option ℕ) where
   one-owner : (c k : ℕ) (p : Option ℕ) → owners c k p ≤ 1
   unfolding owners is_parent bit
   one-owner c zero p = omega arith
-  one-owner c (suc k) none = omega (arith, one-owner (suc c) k none)
-  one-owner c (suc k) (some q) = go (eqb q c) refl (one-owner (suc c) k (some q))
+  one-owner c (suc k) None = omega (arith, one-owner (suc c) k None)
+  one-owner c (suc k) (Some q) = go (eqb q c) refl (one-owner (suc c) k (Some q))
     where
-      go : (b : Bool) → eqb q c ≡ b → owners (suc c) k (some q) ≤ 1 → bit b + owners (suc c) k (some q) ≤ 1
+      go : (b : Bool) → eqb q c ≡ b → owners (suc c) k (Some q) ≤ 1 → bit b + owners (suc c) k (Some q) ≤ 1
       go true e i = let z : q ≡ c = eqb-true q c e in omega (arith, owners-none (suc c) k q (omega arith))
       go false e i = omega arith
 
@@ -178,7 +178,7 @@ module _ (par : ℕ → Option ℕ) where
 
 module _ {P : Type 0} (same : P → P → Bool) (n : ℕ) (row : ℕ → Row P) (all : List Contour) where
   abbrev parent_of : ℕ → Option ℕ
-  parent_of j = (get_or all j (contour [] none 0)).parent
+  parent_of j = (get_or all j (contour [] None 0)).parent
 
   holes-are : (l : List Contour) (c : ℕ) → hole_count (outlines_from same n row all c l) ≡ holes_from parent_of c (length l) (numbers_from 0 (length all))
   unfolding outlines_from outline hole_count holes_of holes_from

@@ -1,8 +1,9 @@
 -- Demand 3 for a lent pool, at binary64: nothing is assumed but 01's words. Directions are told by the exact orientation, points are one by value.
+use Rattle.std.proofs.Common.{Some}
 use mathlib.Core.Path.{◌≡◌, ap, ap₂}
+use Rattle.refusals.specs.declared.Reason.TheVariants as Reason
 use mathlib.Core.Logic.{◌≢◌}
 use mathlib.Core.Bool.{true}
-use mathlib.Core.Option.{some}
 use mathlib.Core.List.{List, Memᴰ}
 use Prim.Native.Nat.{ℕ, suc, min, ◌<◌, ◌≤◌}
 use lib.ListN.{length, get_or}
@@ -56,11 +57,11 @@ module _ (ρ : ℕ → ℕ) (p p' : Pool) (rn : RenumberedPool ρ p p') (list li
 
   -- stopped by 9, it is stopped by 9 at the renamed record, with the same contours before it
   pub order-stopped : NoneOneWay at_binary64 (row_at p) list → (x : Refusal) (f : Finished Point Pool) → connect_pool p list room ≡ stopped x f
-      → (g : Finished Point Pool) × (connect_pool p' list' room ≡ stopped (record { number = x.number; place = ρ x.place }) g) × SameFinished stored ρ (size p) f g
+      → (g : Finished Point Pool) × (connect_pool p' list' room ≡ stopped (record { reason = x.reason; place = ρ x.place }) g) × SameFinished stored ρ (size p) f g
   order-stopped free x f e = D.alike-stopped stored ρ (size p) (alike free) x f e
 
   -- refused by 1, 2, 4, 8 or 5, it is refused by the same number, whatever the directions
-  pub refusals : (x : Refusal) → connect_pool p list room ≡ refused x → (y : Refusal) × (connect_pool p' list' room ≡ refused y) × (y.number ≡ x.number)
+  pub refusals : (x : Refusal) → connect_pool p list room ≡ refused x → (y : Refusal) × (connect_pool p' list' room ≡ refused y) × (y.reason ≡ x.reason)
   unfolding connect_pool stored laws
   refusals x e =
       rw (rn.points, rn.marks)
@@ -98,7 +99,7 @@ module _ (p : Pool) (list : List ℕ) (room : Room) (f : Finished Point Pool) (e
 
 -- ---- what is given, also where refusal 9 stopped it
 
-module _ (p : Pool) (list : List ℕ) (room : Room) (f : Finished Point Pool) (e : given (connect_pool p list room) ≡ some f) where
+module _ (p : Pool) (list : List ℕ) (room : Room) (f : Finished Point Pool) (e : given (connect_pool p list room) ≡ Some f) where
   -- both ends of a listed record's edge have fit points, so that event order reads no other
   pub fit-ends : (r : ℕ) → Memᴰ r list → (at_binary64.fit (row_at p r).point ≡ true) × (at_binary64.fit (row_at p (row_at p r).partner).point ≡ true)
   unfolding connect_pool stored
@@ -131,14 +132,14 @@ unfolding connect_pool stored
 cause p list room x e = D.refused-cause at_binary64 stored p (length p.points) (length p.marks) list room x e
 
 -- by 9 as contours are made, and by 9 only then
-pub stopped-nine : (p : Pool) (list : List ℕ) (room : Room) (x : Refusal) (f : Finished Point Pool) → connect_pool p list room ≡ stopped x f → x.number ≡ 9
+pub stopped-nine : (p : Pool) (list : List ℕ) (room : Room) (x : Refusal) (f : Finished Point Pool) → connect_pool p list room ≡ stopped x f → x.reason ≡ Reason.Loose
 unfolding connect_pool stored
 stopped-nine p list room x f e = D.stopped-nine at_binary64 stored p (length p.points) (length p.marks) list room x f e
 
-pub refused-not-nine : (p : Pool) (list : List ℕ) (room : Room) (x : Refusal) → connect_pool p list room ≡ refused x → x.number ≢ 9
+pub refused-not-nine : (p : Pool) (list : List ℕ) (room : Room) (x : Refusal) → connect_pool p list room ≡ refused x → x.reason ≢ Reason.Loose
 refused-not-nine p list room x e = D.cause-not-9 at_binary64 (row_at p) (size p) (length p.points) (length p.marks) list room x (cause p list room x e)
 
 -- A place for each listed event, and half as many for contours and for holes, are never too few.
-pub always-room : (p : Pool) (list : List ℕ) (room : Room) → Roomy list room → (x : Refusal) → connect_pool p list room ≡ refused x → x.number ≢ 5
+pub always-room : (p : Pool) (list : List ℕ) (room : Room) → Roomy list room → (x : Refusal) → connect_pool p list room ≡ refused x → x.reason ≢ Reason.Room
 unfolding stored laws
 always-room p list room h x e = R.cause-not-5 at_binary64 (row_at p) laws (size p) list (length p.points) (length p.marks) room h x (cause p list room x e)

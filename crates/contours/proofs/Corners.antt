@@ -1,7 +1,7 @@
 -- Each edge of a contour begins, by value, where the one before it ended: so each two neighbouring corners are the two ends of the edge walked there.
+use Rattle.std.proofs.Common.{Option}
 use mathlib.Core.Path.{◌≡◌, ap}
 use mathlib.Core.Bool.{Bool, true}
-use mathlib.Core.Option.{Option}
 use mathlib.Core.List.{List, [], ◌∷◌, map}
 use Prim.Native.Nat.{ℕ, zero, suc, ◌<◌}
 use native.Mathlib.Nat.{not-suc-le-zero, le_of_suc-le-suc}

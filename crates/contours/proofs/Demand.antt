@@ -1,4 +1,8 @@
 -- Demand 3 for any kind of coordinate with the laws of event order and any store of records: order, closing, once.
+use Rattle.refusals.specs.Refusals.{number}
+use Rattle.std.proofs.Common.{Err, Ok, Option}
+use Rattle.refusals.specs.declared.Reason.TheVariants as Reason
+use Rattle.refusals.specs.Refusals.{Verdict}
 use mathlib.Core.Path.{◌≡◌, refl, sym, ap, ap₂, ◌∙◌}
 use mathlib.Core.Logic.{◌⊎◌, inl, inr, ◌≢◌}
 use mathlib.Core.Bool.{Bool, true, false, cond, ◌||◌}
@@ -11,15 +15,12 @@ use borrow.Author.Tests.{eqb-true, eqb-false, eq-eqb, ne_eqb, ltb-true, lt-ltb}
 use lib.ListN.{length, get_or, replicate}
 use lib.Dec.{eqb}
 use Rattle.refusals.specs.declared.Refusal.{Refusal}
-use Rattle.events.specs.declared.Link.{Link}
 use Rattle.events.specs.Coordinates.{Coordinates, same}
 use Rattle.events.specs.Event.{Event}
 use Rattle.events.specs.Store.{Store}
 use Rattle.events.specs.Renaming.{rename}
 use Rattle.events.proofs.Stored.{Stored}
 use Rattle.order.proofs.Laws.{OrderLaws}
-use Rattle.checks.specs.declared.Check.{Check}
-use Rattle.checks.specs.declared.Check.TheVariants.{Passed, Refused}
 use Rattle.contours.specs.Result.{keep, results, ordered}
 use Rattle.contours.specs.Table.{Row, place, table, row_at}
 use Rattle.contours.specs.Contours.{Contour, Answer, done, halted, trace}
@@ -41,7 +42,7 @@ use Rattle.contours.proofs.Settled.{settled-row}
 
 -- ---- order
 
-rename-contour : {P : Type 0} (ρ : ℕ → ℕ) (l m : Link) (e : Event P) → with_contour l (with_contour m (rename ρ e)) ≡ rename ρ (with_contour l e)
+rename-contour : {P : Type 0} (ρ : ℕ → ℕ) (l m : Option ℕ) (e : Event P) → with_contour l (with_contour m (rename ρ e)) ≡ rename ρ (with_contour l e)
 unfolding with_contour rename
 rename-contour ρ l m e = refl
 
@@ -86,10 +87,10 @@ module _ {P S : Type 0} (C : Coordinates P) (K : Store P S) (stored : Stored K) 
           pool = kept;
         }
       where
-        l : ℕ → Link
+        l : ℕ → Option ℕ
         l = number_in (ordered row C list) ms
 
-        l' : ℕ → Link
+        l' : ℕ → Option ℕ
         l' = number_in (ordered row' C list') ms
 
         kept : (r : ℕ) → r < n → K.row_at (settled K l' (K.size s') s') (ρ r) ≡ rename ρ (K.row_at (settled K l n s) r)
@@ -102,19 +103,19 @@ module _ {P S : Type 0} (C : Coordinates P) (K : Store P S) (stored : Stored K) 
     alike_of : (t : Answer) → traced C K s list ≡ t → Alike K ρ n (outcome_of C K s list t) (outcome_of C K s' list' t)
     unfolding outcome_of traced
     alike_of (done ms cs) e = connected_alike (same-finished ms cs)
-    alike_of (halted number i ms cs) e = stopped_alike (ap (λ (q : ℕ). record { number = number; place = q }) told) (same-finished ms cs)
+    alike_of (halted reason i ms cs) e = stopped_alike (ap (λ (q : ℕ). record { reason = reason; place = q }) told) (same-finished ms cs)
       where
         told : get_or (ordered row' C list') i 0 ≡ ρ (get_or (ordered row C list) i 0)
         told =
             ap (λ (q : List ℕ). get_or q i 0) ords
-            ∙ get_d_map ρ (ordered row C list) i 0 0 (omega (arith, halted-in (same C) (length (rows C K s list)) (rows_at C K s list) number i ms cs e, size C row void list))
+            ∙ get_d_map ρ (ordered row C list) i 0 0 (omega (arith, halted-in (same C) (length (rows C K s list)) (rows_at C K s list) reason i ms cs e, size C row void list))
 
   -- Another numbering and listing gives the same contours, corners, parents, depths and holes, bit for bit, and the same contour numbers.
   pub order : (points marks : ℕ) (room : Room) → NoneOneWay C row list → Alike K ρ n (connect C K s points marks list room) (connect C K s' points marks list' room)
   unfolding connect after_checks
   order points marks room free = go _ _ refl (accept-kept points marks room)
     where
-      go : (a a' : Check) → accept C row n points marks list room ≡ a → SameNumber a a' → Alike K ρ n (after_checks C K s list a) (after_checks C K s' list' a')
+      go : (a a' : Verdict) → accept C row n points marks list room ≡ a → SameNumber a a' → Alike K ρ n (after_checks C K s list a) (after_checks C K s' list' a')
       go a a' e both-pass =
           let ok : Accepted C row n list = (accepted C row n list points marks room e).0 in
           rw (traces ok free) (alike_of ok free (traced C K s list) refl)
@@ -122,7 +123,7 @@ module _ {P S : Type 0} (C : Coordinates P) (K : Store P S) (stored : Stored K) 
 
   -- A list refused by 1, 2, 4, 8 or 5 is refused by the same number, whatever the directions.
   pub refusals : (points marks : ℕ) (room : Room) (x : Refusal) → connect C K s points marks list room ≡ refused x
-      → (y : Refusal) × (connect C K s' points marks list' room ≡ refused y) × (y.number ≡ x.number)
+      → (y : Refusal) × (connect C K s' points marks list' room ≡ refused y) × (y.reason ≡ x.reason)
   unfolding connect after_checks outcome_of
   refusals points marks room x e = go _ _ (accept-kept points marks room) e
     where
@@ -130,9 +131,9 @@ module _ {P S : Type 0} (C : Coordinates P) (K : Store P S) (stored : Stored K) 
       never (done ms cs) q = let z : ◌≡◌ {A = ℕ} 1 0 = cc in suc-ne-zero 0 z
       never (halted k i ms cs) q = let z : ◌≡◌ {A = ℕ} 1 0 = cc in suc-ne-zero 0 z
 
-      go : (a a' : Check) → SameNumber a a' → after_checks C K s list a ≡ refused x → (y : Refusal) × (after_checks C K s' list' a' ≡ refused y) × (y.number ≡ x.number)
+      go : (a a' : Verdict) → SameNumber a a' → after_checks C K s list a ≡ refused x → (y : Refusal) × (after_checks C K s' list' a' ≡ refused y) × (y.reason ≡ x.reason)
       go a a' both-pass q = absurd (never (traced C K s list) q)
-      go a a' (both-refuse {x = u} {y = y} m) q = let z : u ≡ x = cc in (y, refl, m ∙ ap (λ (r : Refusal). r.number) z)
+      go a a' (both-refuse {x = u} {y = y} m) q = let z : u ≡ x = cc in (y, refl, m ∙ ap (λ (r : Refusal). r.reason) z)
 
 -- what two outcomes that are alike have in common
 module _ {P S : Type 0} (K : Store P S) (ρ : ℕ → ℕ) (n : ℕ) where
@@ -145,12 +146,12 @@ module _ {P S : Type 0} (K : Store P S) (ρ : ℕ → ℕ) (n : ℕ) where
   alike-connected (connected_alike {f = f₀} {g = g} h) f e = let q : f₀ ≡ f = cc in (g, refl, rw q at h)
 
   pub alike-stopped : {a b : Outcome P S} → Alike K ρ n a b → (x : Refusal) (f : Finished P S) → a ≡ stopped x f
-      → (g : Finished P S) × (b ≡ stopped (record { number = x.number; place = ρ x.place }) g) × SameFinished K ρ n f g
+      → (g : Finished P S) × (b ≡ stopped (record { reason = x.reason; place = ρ x.place }) g) × SameFinished K ρ n f g
   alike-stopped (refused_alike q) x f e = let z : ◌≡◌ {A = ℕ} 1 0 = cc in never z
   alike-stopped (stopped_alike {x = x₀} {y = y} {f = f₀} {g = g} q h) x f e =
       let u : f₀ ≡ f = cc in
       let v : x₀ ≡ x = cc in
-      (g, ap (λ (z : Refusal). stopped z g) (q ∙ ap (λ (z : Refusal). record { number = z.number; place = ρ z.place }) v), rw u at h)
+      (g, ap (λ (z : Refusal). stopped z g) (q ∙ ap (λ (z : Refusal). record { reason = z.reason; place = ρ z.place }) v), rw u at h)
   alike-stopped (connected_alike h) x f e = let z : ◌≡◌ {A = ℕ} 1 0 = cc in never z
 
 -- ---- refused, exactly
@@ -164,40 +165,40 @@ refused-cause C K s points marks list room x e = go (accept C (K.row_at s) (K.si
     by (done ms cs) q = let z : ◌≡◌ {A = ℕ} 1 0 = cc in suc-ne-zero 0 z
     by (halted k i ms cs) q = let z : ◌≡◌ {A = ℕ} 1 0 = cc in suc-ne-zero 0 z
 
-    go : (a : Check) → accept C (K.row_at s) (K.size s) points marks list room ≡ a → after_checks C K s list a ≡ refused x → Cause C (K.row_at s) (K.size s) points marks list room x
-    go Passed q e = absurd (by (traced C K s list) e)
-    go (Refused y) q e = let z : y ≡ x = cc in cause C (K.row_at s) (K.size s) points marks list room x (q ∙ ap Refused z)
+    go : (a : Verdict) → accept C (K.row_at s) (K.size s) points marks list room ≡ a → after_checks C K s list a ≡ refused x → Cause C (K.row_at s) (K.size s) points marks list room x
+    go (Ok _) q e = absurd (by (traced C K s list) e)
+    go (Err y) q e = let z : y ≡ x = cc in cause C (K.row_at s) (K.size s) points marks list room x (q ∙ ap Err z)
 
 module _ {P : Type 0} (C : Coordinates P) (row : ℕ → Event P) (n points marks : ℕ) (list : List ℕ) (room : Room) (x : Refusal) where
-  short-not-9 : (events edges : ℕ) → Short room events edges x → x.number ≢ 9
-  short-not-9 events edges (short-points a e) q = omega (arith, ap (λ (y : Refusal). y.number) e)
-  short-not-9 events edges (short-contours a b e) q = omega (arith, ap (λ (y : Refusal). y.number) e)
-  short-not-9 events edges (short-holes a b c e) q = omega (arith, ap (λ (y : Refusal). y.number) e)
+  short-not-9 : (events edges : ℕ) → Short room events edges x → x.reason ≢ Reason.Loose
+  short-not-9 events edges (short-points a e) q = omega (arith, ap (λ (y : Refusal). number y.reason) e, ap number q)
+  short-not-9 events edges (short-contours a b e) q = omega (arith, ap (λ (y : Refusal). number y.reason) e, ap number q)
+  short-not-9 events edges (short-holes a b c e) q = omega (arith, ap (λ (y : Refusal). number y.reason) e, ap number q)
 
   -- no check refuses by 9
-  pub cause-not-9 : Cause C row n points marks list room x → x.number ≢ 9
-  cause-not-9 (list1 l e) q = omega (arith, ap (λ (y : Refusal). y.number) e)
-  cause-not-9 (size1 l m e) q = omega (arith, ap (λ (y : Refusal). y.number) e)
-  cause-not-9 (unfit2 t) q = omega (arith, t.number_is)
-  cause-not-9 (mistake4 u t) q = omega (arith, t.number_is)
-  cause-not-9 (half8 u m t) q = omega (arith, t.number_is)
+  pub cause-not-9 : Cause C row n points marks list room x → x.reason ≢ Reason.Loose
+  cause-not-9 (list1 l e) q = omega (arith, ap (λ (y : Refusal). number y.reason) e, ap number q)
+  cause-not-9 (size1 l m e) q = omega (arith, ap (λ (y : Refusal). number y.reason) e, ap number q)
+  cause-not-9 (unfit2 t) q = omega (arith, ap number t.reason_is, ap number q)
+  cause-not-9 (mistake4 u t) q = omega (arith, ap number t.reason_is, ap number q)
+  cause-not-9 (half8 u m t) q = omega (arith, ap number t.reason_is, ap number q)
   cause-not-9 (room5 u m t s) q = short-not-9 _ _ s q
 
 -- .. and nothing else stops a list that has passed them
 pub stopped-nine : {P S : Type 0} (C : Coordinates P) (K : Store P S) (s : S) (points marks : ℕ) (list : List ℕ) (room : Room) (x : Refusal) (f : Finished P S)
-    → connect C K s points marks list room ≡ stopped x f → x.number ≡ 9
+    → connect C K s points marks list room ≡ stopped x f → x.reason ≡ Reason.Loose
 unfolding connect after_checks outcome_of traced
 stopped-nine C K s points marks list room x f = go (accept C (K.row_at s) (K.size s) points marks list room)
   where
-    by : (t : Answer) → Ends (length (rows C K s list)) (λ i ms cs. Unit {0}) t → outcome_of C K s list t ≡ stopped x f → x.number ≡ 9
+    by : (t : Answer) → Ends (length (rows C K s list)) (λ i ms cs. Unit {0}) t → outcome_of C K s list t ≡ stopped x f → x.reason ≡ Reason.Loose
     by (done ms cs) h e = let z : ◌≡◌ {A = ℕ} 1 0 = cc in absurd (suc-ne-zero 0 z)
-    by (halted number i ms cs) h e =
-        let z : record { number = number; place = get_or (ordered (K.row_at s) C list) i 0 } ≡ x = cc in
-        sym (ap (λ (y : Refusal). y.number) z) ∙ h.0
+    by (halted reason i ms cs) h e =
+        let z : record { reason = reason; place = get_or (ordered (K.row_at s) C list) i 0 } ≡ x = cc in
+        sym (ap (λ (y : Refusal). y.reason) z) ∙ h.0
 
-    go : (a : Check) → after_checks C K s list a ≡ stopped x f → x.number ≡ 9
-    go Passed e = by (traced C K s list) (by-nine (same C) (length (rows C K s list)) (rows_at C K s list)) e
-    go (Refused y) e = let z : ◌≡◌ {A = ℕ} 1 0 = cc in absurd (suc-ne-zero 0 z)
+    go : (a : Verdict) → after_checks C K s list a ≡ stopped x f → x.reason ≡ Reason.Loose
+    go (Ok _) e = by (traced C K s list) (by-nine (same C) (length (rows C K s list)) (rows_at C K s list)) e
+    go (Err y) e = let z : ◌≡◌ {A = ℕ} 1 0 = cc in absurd (suc-ne-zero 0 z)
 
 -- ---- closing and once
 
@@ -220,9 +221,9 @@ module _ {P S : Type 0} (C : Coordinates P) (K : Store P S) (s : S) (points mark
           record { ok = ok; marks = ms; contours = cs; trace = q; shown = sym (ap (λ (g : Finished P S). g.outlines) h) }
       by (halted k i ms cs) ok q e = let z : ◌≡◌ {A = ℕ} 1 0 = cc in absurd (suc-ne-zero 0 z)
 
-      go : (a : Check) → accept C (K.row_at s) (K.size s) points marks list room ≡ a → after_checks C K s list a ≡ connected f → Traced C K s list f
-      go Passed q e = by (traced C K s list) (accepted C (K.row_at s) (K.size s) list points marks room q).0 refl e
-      go (Refused x) q e = let z : ◌≡◌ {A = ℕ} 1 0 = cc in absurd (suc-ne-zero 0 z)
+      go : (a : Verdict) → accept C (K.row_at s) (K.size s) points marks list room ≡ a → after_checks C K s list a ≡ connected f → Traced C K s list f
+      go (Ok _) q e = by (traced C K s list) (accepted C (K.row_at s) (K.size s) list points marks room q).0 refl e
+      go (Err x) q e = let z : ◌≡◌ {A = ℕ} 1 0 = cc in absurd (suc-ne-zero 0 z)
 
 module _ {P : Type 0} (same : P → P → Bool) (n : ℕ) (row : ℕ → Row P) (all : List Contour) where
   -- of closed contours each outline closes and none is counted open

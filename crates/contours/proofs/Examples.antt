@@ -1,15 +1,14 @@
 -- Small lists that compute, on the grid of natural numbers: two squares that touch; and that each hypothesis of demand 3 is needed.
+use Rattle.refusals.specs.Refusals.{number}
+use Rattle.std.proofs.Common.{None, Some, Option}
 use mathlib.Core.Path.{◌≡◌, refl}
 use mathlib.Core.Bool.{Bool, true, false}
-use mathlib.Core.Option.{Option, none, some}
 use mathlib.Core.List.{List, [], ◌∷◌, ◌++◌, map}
 use Prim.Native.Nat.{ℕ, ◌+◌}
 use lib.ListN.{length, get_or, set}
 use Rattle.events.specs.declared.EdgeType.TheVariants.{Normal}
 use Rattle.events.specs.declared.ResultTransition.{ResultTransition}
 use Rattle.events.specs.declared.ResultTransition.TheVariants.{None as NoTransition, InOut, OutIn}
-use Rattle.events.specs.declared.Link.{Link}
-use Rattle.events.specs.declared.Link.TheVariants.{None, To}
 use Rattle.events.specs.Coordinates.{same, ahead}
 use Rattle.events.specs.Event.{Event, key}
 use Rattle.events.specs.Store.{Store}
@@ -34,7 +33,7 @@ use Rattle.contours.specs.Connect.{Outcome, refused, stopped, connected, finishe
 spot : ℕ → ℕ → Spot
 spot x y = record { x = x; y = y }
 
-end : Spot → Bool → ℕ → Link → ResultTransition → Event Spot
+end : Spot → Bool → ℕ → Option ℕ → ResultTransition → Event Spot
 end p left partner below t =
     record {
       point = p;
@@ -70,8 +69,8 @@ shown : Outline Spot → Shown
 shown o = record { corners = o.corners; parent = o.parent; depth = o.depth; holes = o.holes; unclosed = o.unclosed }
 
 told : Outcome Spot (List (Event Spot)) → ℕ × ℕ × List Shown
-told (refused r) = (r.number, r.place, [])
-told (stopped r f) = (r.number, r.place, map shown f.outlines)
+told (refused r) = (number r.reason, r.place, [])
+told (stopped r f) = (number r.reason, r.place, map shown f.outlines)
 told (connected f) = (0, 0, map shown f.outlines)
 
 ample : Room
@@ -92,9 +91,9 @@ square k a =
     ∷ end (spot (a + 1) a) false k None OutIn
     ∷ end (spot (a + 1) a) true (k + 3) None InOut
     ∷ end (spot (a + 1) (a + 1)) false (k + 2) None InOut
-    ∷ end (spot a (a + 1)) true (k + 5) (To k) InOut
+    ∷ end (spot a (a + 1)) true (k + 5) (Some k) InOut
     ∷ end (spot (a + 1) (a + 1)) false (k + 4) None InOut
-    ∷ end (spot a a) true (k + 7) (To k) InOut
+    ∷ end (spot a a) true (k + 7) (Some k) InOut
     ∷ end (spot a (a + 1)) false (k + 6) None InOut
     ∷ []
 
@@ -103,7 +102,7 @@ unfolding spot
 round-square a =
     record {
       corners = spot a a ∷ spot (a + 1) a ∷ spot (a + 1) (a + 1) ∷ spot a (a + 1) ∷ spot a a ∷ [];
-      parent = none;
+      parent = None;
       depth = 0;
       holes = [];
       unclosed = false;
@@ -125,7 +124,7 @@ unfolding end spot
 twins =
     end (spot 1 1) true 1 None InOut
     ∷ end (spot 2 1) false 0 None InOut
-    ∷ end (spot 1 1) true 3 (To 4) InOut
+    ∷ end (spot 1 1) true 3 (Some 4) InOut
     ∷ end (spot 2 1) false 2 None InOut
     ∷ end (spot 0 0) true 5 None OutIn
     ∷ end (spot 3 0) false 4 None OutIn
@@ -133,7 +132,7 @@ twins =
 
 there_and_back : Shown
 unfolding spot
-there_and_back = record { corners = spot 1 1 ∷ spot 2 1 ∷ spot 1 1 ∷ []; parent = none; depth = 0; holes = []; unclosed = false }
+there_and_back = record { corners = spot 1 1 ∷ spot 2 1 ∷ spot 1 1 ∷ []; parent = None; depth = 0; holes = []; unclosed = false }
 
 one_way : run twins (0 ∷ 1 ∷ 2 ∷ 3 ∷ []) ≡ (0, 0, there_and_back ∷ [])
 unfolding run twins there_and_back
@@ -146,7 +145,7 @@ other_way = refl
 -- ---- closing needs the even ends: a single edge is an open contour
 
 lone : run (end (spot 0 0) true 1 None OutIn ∷ end (spot 1 0) false 0 None OutIn ∷ []) (0 ∷ 1 ∷ [])
-    ≡ (0, 0, record { corners = spot 0 0 ∷ spot 1 0 ∷ []; parent = none; depth = 0; holes = []; unclosed = true } ∷ [])
+    ≡ (0, 0, record { corners = spot 0 0 ∷ spot 1 0 ∷ []; parent = None; depth = 0; holes = []; unclosed = true } ∷ [])
 unfolding run end spot
 lone = refl
 
@@ -163,24 +162,24 @@ nested : run (
     ∷ end (spot 3 0) false 0 None OutIn
     ∷ end (spot 3 0) true 3 None InOut
     ∷ end (spot 3 3) false 2 None InOut
-    ∷ end (spot 0 3) true 5 (To 0) InOut
+    ∷ end (spot 0 3) true 5 (Some 0) InOut
     ∷ end (spot 3 3) false 4 None InOut
-    ∷ end (spot 0 0) true 7 (To 0) InOut
+    ∷ end (spot 0 0) true 7 (Some 0) InOut
     ∷ end (spot 0 3) false 6 None InOut
-    ∷ end (spot 1 1) true 9 (To 0) InOut
+    ∷ end (spot 1 1) true 9 (Some 0) InOut
     ∷ end (spot 2 1) false 8 None InOut
-    ∷ end (spot 2 1) true 11 (To 0) OutIn
+    ∷ end (spot 2 1) true 11 (Some 0) OutIn
     ∷ end (spot 2 2) false 10 None OutIn
-    ∷ end (spot 1 2) true 13 (To 8) OutIn
+    ∷ end (spot 1 2) true 13 (Some 8) OutIn
     ∷ end (spot 2 2) false 12 None OutIn
-    ∷ end (spot 1 1) true 15 (To 8) OutIn
+    ∷ end (spot 1 1) true 15 (Some 8) OutIn
     ∷ end (spot 1 2) false 14 None OutIn
     ∷ []) (numbers_from 0 16)
     ≡ (
       0,
       0,
-      record { corners = spot 0 0 ∷ spot 3 0 ∷ spot 3 3 ∷ spot 0 3 ∷ spot 0 0 ∷ []; parent = none; depth = 0; holes = 1 ∷ []; unclosed = false }
-          ∷ record { corners = spot 1 1 ∷ spot 2 1 ∷ spot 2 2 ∷ spot 1 2 ∷ spot 1 1 ∷ []; parent = some 0; depth = 1; holes = []; unclosed = false } ∷ [],
+      record { corners = spot 0 0 ∷ spot 3 0 ∷ spot 3 3 ∷ spot 0 3 ∷ spot 0 0 ∷ []; parent = None; depth = 0; holes = 1 ∷ []; unclosed = false }
+          ∷ record { corners = spot 1 1 ∷ spot 2 1 ∷ spot 2 2 ∷ spot 1 2 ∷ spot 1 1 ∷ []; parent = Some 0; depth = 1; holes = []; unclosed = false } ∷ [],
     )
 unfolding run end spot
 nested = refl
@@ -188,7 +187,7 @@ nested = refl
 -- ---- the cases of `initialize_from_context`, by single edges one above the other: nothing below; inside a contour; inside a hole; outside; and above
 -- an edge that is not OutIn and has no contour, the last, which is not listed
 
-line : ℕ → ℕ → ℕ → Link → ResultTransition → List (Event Spot)
+line : ℕ → ℕ → ℕ → Option ℕ → ResultTransition → List (Event Spot)
 unfolding end spot
 line k x y below t = end (spot x y) true (k + 1) below t ∷ end (spot (x + 1) y) false k None t ∷ []
 
@@ -196,7 +195,7 @@ lined : ℕ → ℕ → Option ℕ → ℕ → List ℕ → Shown
 unfolding spot
 lined x y p d hs = record { corners = spot x y ∷ spot (x + 1) y ∷ []; parent = p; depth = d; holes = hs; unclosed = true }
 
-contexts : run (line 0 0 0 None OutIn ++ line 2 1 1 (To 0) OutIn ++ line 4 2 2 (To 2) InOut ++ line 6 3 3 (To 4) OutIn ++ line 8 4 4 (To 10) OutIn ++ line 10 5 5 None InOut) (numbers_from 0 10)
-    ≡ (0, 0, lined 0 0 none 0 (1 ∷ 2 ∷ []) ∷ lined 1 1 (some 0) 1 [] ∷ lined 2 2 (some 0) 1 [] ∷ lined 3 3 none 1 [] ∷ lined 4 4 none 0 [] ∷ [])
+contexts : run (line 0 0 0 None OutIn ++ line 2 1 1 (Some 0) OutIn ++ line 4 2 2 (Some 2) InOut ++ line 6 3 3 (Some 4) OutIn ++ line 8 4 4 (Some 10) OutIn ++ line 10 5 5 None InOut) (numbers_from 0 10)
+    ≡ (0, 0, lined 0 0 None 0 (1 ∷ 2 ∷ []) ∷ lined 1 1 (Some 0) 1 [] ∷ lined 2 2 (Some 0) 1 [] ∷ lined 3 3 None 1 [] ∷ lined 4 4 None 0 [] ∷ [])
 unfolding run line lined
 contexts = refl

@@ -1,8 +1,9 @@
 -- What is given, by a list that is connected and by one that is stopped at refusal 9: its places are there, and its corners are ends of result edges.
+use Rattle.std.proofs.Common.{Err, Ok, Some}
+use Rattle.refusals.specs.Refusals.{Verdict}
 use mathlib.Core.Path.{◌≡◌, refl, sym, ap, ◌∙◌}
 use mathlib.Core.Logic.{◌⊎◌, inl, inr}
 use mathlib.Core.Bool.{Bool, true}
-use mathlib.Core.Option.{some}
 use mathlib.Core.List.Memᴰ
 use mathlib.Core.List.{List, [], ◌∷◌, Memᴰ}
 use Prim.Native.Nat.{ℕ, suc, ◌≤◌, ◌<◌}
@@ -13,8 +14,6 @@ use Rattle.events.specs.Coordinates.{Coordinates, same}
 use Rattle.events.specs.Event.{Event}
 use Rattle.events.specs.Store.{Store}
 use Rattle.order.proofs.Laws.{OrderLaws}
-use Rattle.checks.specs.declared.Check.{Check}
-use Rattle.checks.specs.declared.Check.TheVariants.{Passed, Refused}
 use Rattle.contours.specs.Result.{results, result_edges, ordered}
 use Rattle.contours.specs.Table.{Row}
 use Rattle.contours.specs.Contours.{Contour, Answer, done, halted}
@@ -33,11 +32,11 @@ use Rattle.contours.proofs.Good.{size, sorted, good, by_value, sides, lefts-open
 -- the contours of an answer, finished or not
 abbrev contours_of : Answer → List Contour
 contours_of (done ms cs) = cs
-contours_of (halted number i ms cs) = cs
+contours_of (halted reason i ms cs) = cs
 
 held : (n : ℕ) (I : ℕ → List ℕ → List Contour → Type 0) (t : Answer) → Ends n I t → (i : ℕ) × (ms : List ℕ) × I i ms (contours_of t)
 held n I (done ms cs) h = (n, ms, h)
-held n I (halted number i ms cs) h = (i, ms, h.2)
+held n I (halted reason i ms cs) h = (i, ms, h.2)
 
 record Shown {P S : Type 0} (C : Coordinates P) (K : Store P S) (s : S) (points marks : ℕ) (list : List ℕ) (room : Room) (f : Finished P S) : Type 0 where
   ok : Accepted C (K.row_at s) (K.size s) list
@@ -47,14 +46,14 @@ record Shown {P S : Type 0} (C : Coordinates P) (K : Store P S) (s : S) (points 
   shown : f.outlines ≡ outlines (same C) (length (rows C K s list)) (rows_at C K s list) (contours_of answer)
 
 module _ {P S : Type 0} (C : Coordinates P) (K : Store P S) (s : S) (points marks : ℕ) (list : List ℕ) (room : Room) (f : Finished P S) where
-  given_is : given (connect C K s points marks list room) ≡ some f → Shown C K s points marks list room f
+  given_is : given (connect C K s points marks list room) ≡ Some f → Shown C K s points marks list room f
   unfolding connect after_checks outcome_of finished given
   given_is = go (accept C (K.row_at s) (K.size s) points marks list room) refl
     where
-      outlined : (ms : List ℕ) (cs : List Contour) → some (finished C K s list ms cs) ≡ some f → f.outlines ≡ outlines (same C) (length (rows C K s list)) (rows_at C K s list) cs
+      outlined : (ms : List ℕ) (cs : List Contour) → Some (finished C K s list ms cs) ≡ Some f → f.outlines ≡ outlines (same C) (length (rows C K s list)) (rows_at C K s list) cs
       outlined ms cs e = let h : finished C K s list ms cs ≡ f = cc in sym (ap (λ (g : Finished P S). g.outlines) h)
 
-      by : (t : Answer) → accept C (K.row_at s) (K.size s) points marks list room ≡ Passed → traced C K s list ≡ t → given (outcome_of C K s list t) ≡ some f → Shown C K s points marks list room f
+      by : (t : Answer) → accept C (K.row_at s) (K.size s) points marks list room ≡ Ok tt → traced C K s list ≡ t → given (outcome_of C K s list t) ≡ Some f → Shown C K s points marks list room f
       by (done ms cs) q w e =
           let a = accepted C (K.row_at s) (K.size s) list points marks room q in
           record { ok = a.0; fits = a.1; answer = done ms cs; trace = w; shown = outlined ms cs e }
@@ -62,12 +61,12 @@ module _ {P S : Type 0} (C : Coordinates P) (K : Store P S) (s : S) (points mark
           let a = accepted C (K.row_at s) (K.size s) list points marks room q in
           record { ok = a.0; fits = a.1; answer = halted k i ms cs; trace = w; shown = outlined ms cs e }
 
-      go : (a : Check) → accept C (K.row_at s) (K.size s) points marks list room ≡ a → given (after_checks C K s list a) ≡ some f → Shown C K s points marks list room f
-      go Passed q e = by (traced C K s list) q refl e
-      go (Refused x) q e = let z : ◌≡◌ {A = ℕ} 1 0 = cc in absurd (suc-ne-zero 0 z)
+      go : (a : Verdict) → accept C (K.row_at s) (K.size s) points marks list room ≡ a → given (after_checks C K s list a) ≡ Some f → Shown C K s points marks list room f
+      go (Ok _) q e = by (traced C K s list) q refl e
+      go (Err x) q e = let z : ◌≡◌ {A = ℕ} 1 0 = cc in absurd (suc-ne-zero 0 z)
 
   -- both ends of a listed record's edge have fit points, so that event order reads no other
-  pub fit-ends : given (connect C K s points marks list room) ≡ some f
+  pub fit-ends : given (connect C K s points marks list room) ≡ Some f
       → (r : ℕ) → Memᴰ r list → (C.fit (K.row_at s r).point ≡ true) × (C.fit (K.row_at s (K.row_at s r).partner).point ≡ true)
   fit-ends e r m = let ok = (given_is e).ok in ((ok.each r m).fit, ok.other-fit r m)
 
@@ -95,7 +94,7 @@ module _ {P : Type 0} (same : P → P → Bool) (n : ℕ) (row : ℕ → Row P) 
       go (inr j) r = r j
 
 module _ {P S : Type 0} (C : Coordinates P) (K : Store P S) (L : OrderLaws C)
-    (s : S) (points marks : ℕ) (list : List ℕ) (room : Room) (f : Finished P S) (e : given (connect C K s points marks list room) ≡ some f) where
+    (s : S) (points marks : ℕ) (list : List ℕ) (room : Room) (f : Finished P S) (e : given (connect C K s points marks list room) ≡ Some f) where
   abbrev recs : ℕ → Event P
   recs = K.row_at s
 

@@ -1,8 +1,8 @@
 -- Counts of the positions that are not yet walked, how a mark changes them, and what a search among them finds.
+use Rattle.std.proofs.Common.{None, Some}
 use mathlib.Core.Path.{◌≡◌, refl, sym, ap, ◌∙◌}
 use mathlib.Core.Logic.{◌≢◌, ◌⊎◌, inl, inr}
 use mathlib.Core.Bool.{Bool, true, false, cond, true≢false, false≢true}
-use mathlib.Core.Option.{none, some}
 use mathlib.Core.List.Memᴰ
 use mathlib.Core.List.{List, [], ◌∷◌, Memᴰ}
 use Prim.Native.Nat.{ℕ, zero, suc, ◌+◌, ◌≤◌, ◌<◌}
@@ -116,22 +116,22 @@ open-false (suc m) e q = suc-ne-zero m q
 
 -- ---- what a search finds
 
-pub seek-some : (ms l : List ℕ) (j : ℕ) → seek ms l ≡ some j → (get_or ms j 1 ≡ 0) × Memᴰ j l
+pub seek-some : (ms l : List ℕ) (j : ℕ) → seek ms l ≡ Some j → (get_or ms j 1 ≡ 0) × Memᴰ j l
 unfolding seek
 seek-some ms [] j e = let z : ◌≡◌ {A = ℕ} 1 0 = cc in not-0 z
 seek-some ms (i ∷ l) j e = go (is_open (get_or ms i 1)) refl e (seek-some ms l j)
   where
-    go : (b : Bool) → is_open (get_or ms i 1) ≡ b → cond b (some i) (seek ms l) ≡ some j → (seek ms l ≡ some j → (get_or ms j 1 ≡ 0) × Memᴰ j l)
+    go : (b : Bool) → is_open (get_or ms i 1) ≡ b → cond b (Some i) (seek ms l) ≡ Some j → (seek ms l ≡ Some j → (get_or ms j 1 ≡ 0) × Memᴰ j l)
         → (get_or ms j 1 ≡ 0) × Memᴰ j (i ∷ l)
     go true q e r = let s : i ≡ j = cc in (rw s at (open-true (get_or ms i 1) q), Memᴰ.head (sym s))
     go false q e r = ((r e).0, Memᴰ.tail (r e).1)
 
-pub seek-none : (ms l : List ℕ) → seek ms l ≡ none → (j : ℕ) → Memᴰ j l → get_or ms j 1 ≢ 0
+pub seek-none : (ms l : List ℕ) → seek ms l ≡ None → (j : ℕ) → Memᴰ j l → get_or ms j 1 ≢ 0
 unfolding seek
 seek-none ms [] e j m = absurd (Memᴰ.not-nil m)
 seek-none ms (i ∷ l) e j m = go (is_open (get_or ms i 1)) refl e (Memᴰ.cases_cons m) (λ q. seek-none ms l q j)
   where
-    go : (b : Bool) → is_open (get_or ms i 1) ≡ b → cond b (some i) (seek ms l) ≡ none → (j ≡ i) ⊎ Memᴰ j l → (seek ms l ≡ none → Memᴰ j l → get_or ms j 1 ≢ 0) → get_or ms j 1 ≢ 0
+    go : (b : Bool) → is_open (get_or ms i 1) ≡ b → cond b (Some i) (seek ms l) ≡ None → (j ≡ i) ⊎ Memᴰ j l → (seek ms l ≡ None → Memᴰ j l → get_or ms j 1 ≢ 0) → get_or ms j 1 ≢ 0
     go true q e d r = let z : ◌≡◌ {A = ℕ} 1 0 = cc in not-0 z
     go false q e (inl s) r = rw s (open-false (get_or ms i 1) q)
     go false q e (inr k) r = r e k

@@ -1,8 +1,8 @@
 -- What numbers are told of contours: every parent and every hole is one of them, and every depth is below how many they are. A contour made takes its
 -- parent and its depth from one before it, whose number the marks hold.
+use Rattle.std.proofs.Common.{Option, None, Some}
 use mathlib.Core.Path.{◌≡◌}
 use mathlib.Core.Bool.{Bool, true, false}
-use mathlib.Core.Option.{Option, none, some}
 use mathlib.Core.List.{List, [], ◌∷◌}
 use Prim.Native.Nat.{ℕ, zero, suc, ◌+◌, ◌≤◌, ◌<◌}
 use native.Mathlib.Omega.{arith}
@@ -21,8 +21,8 @@ use Rattle.contours.proofs.Amount.{count-snoc}
 
 -- one of the first n
 abbrev pub ParentIn : ℕ → Option ℕ → Type 0
-ParentIn n none = Unit {0}
-ParentIn n (some p) = p < n
+ParentIn n None = Unit {0}
+ParentIn n (Some p) = p < n
 
 abbrev PlaceIn : ℕ → Place → Type 0
 PlaceIn n refuse = Unit {0}
@@ -33,13 +33,13 @@ pub record Nested (n : ℕ) (k : Contour) : Type 0 where
   pub depth : k.depth < n
 
 parent-more : (n : ℕ) (p : Option ℕ) → ParentIn n p → ParentIn (suc n) p
-parent-more n none h = tt
-parent-more n (some p) h = omega arith
+parent-more n None h = tt
+parent-more n (Some p) h = omega arith
 
 hole-in : (n : ℕ) (p : Option ℕ) (c d : ℕ) → ParentIn n p → c < n → d < n → PlaceIn (suc n) (hole p c d)
 unfolding hole
-hole-in n none c d h k l = (omega arith, omega arith)
-hole-in n (some p) c d h k l = (omega arith, omega arith)
+hole-in n None c d h k l = (omega arith, omega arith)
+hole-in n (Some p) c d h k l = (omega arith, omega arith)
 
 under-in : (n : ℕ) (b : Bool) (c : ℕ) (k : Contour) → Nested n k → c < n → PlaceIn (suc n) (under b c k)
 unfolding under
@@ -64,7 +64,7 @@ context-in i ms cs h (over q b) = go (get_or ms q 0) (h.marked-in q)
   where
     go : (m : ℕ) → m ≤ length cs → PlaceIn (suc (length cs)) (owned b cs m)
     go zero l = loose-in (length cs) b
-    go (suc c) l = under-in (length cs) b c _ (all-mem (Nested (length cs)) cs _ h.nested (mem-get_d cs c (contour [] none 0) l)) l
+    go (suc c) l = under-in (length cs) b c _ (all-mem (Nested (length cs)) cs _ h.nested (mem-get_d cs c (contour [] None 0) l)) l
 
 -- a mark at most b
 set-in : (ms : List ℕ) (i x j b : ℕ) → x ≤ b → get_or ms j 0 ≤ b → get_or (set ms i x) j 0 ≤ b
@@ -121,7 +121,7 @@ module _ {P : Type 0} (same : P → P → Bool) (n : ℕ) (row : ℕ → Row P) 
     record {
       parent = h.0.parent;
       depth = h.0.depth;
-      holes = all_keep (λ j. is_parent c (get_or all j (contour [] none 0)).parent) (λ j. j < length all) (numbers_from 0 (length all)) (numbers-below 0 (length all) (length all) (omega arith));
+      holes = all_keep (λ j. is_parent c (get_or all j (contour [] None 0)).parent) (λ j. j < length all) (numbers_from 0 (length all)) (numbers-below 0 (length all) (length all) (omega arith));
     },
     outlines-in l (suc c) h.1,
   )

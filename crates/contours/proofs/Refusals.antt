@@ -1,7 +1,10 @@
 -- Under another numbering and listing the checks answer by the same number: each test strikes a renamed record exactly if it strikes the record.
+use Rattle.refusals.specs.declared.Reason.TheVariants as Reason
+use Rattle.refusals.specs.declared.Reason.{Reason}
+use Rattle.std.proofs.Common.{Err, None, Ok, Option, Some}
+use Rattle.refusals.specs.Refusals.{Verdict}
 use mathlib.Core.Path.{◌≡◌, refl, sym, ap, ap₂, ◌∙◌}
 use mathlib.Core.Bool.{Bool, true, false, not, cond, ◌&&◌, ◌||◌, beq}
-use mathlib.Core.Option.{none, some}
 use mathlib.Core.List.{List, [], ◌∷◌, map, Permᴰ}
 use Prim.Native.Nat.{ℕ, suc, ◌<◌}
 use native.Mathlib.Nat.{suc-ne-zero}
@@ -9,13 +12,9 @@ use borrow.Author.Tests.{ltb-true}
 use lib.ListN.{length, length-map}
 use lib.Dec.{eqb, ltb}
 use Rattle.refusals.specs.declared.Refusal.{Refusal}
-use Rattle.events.specs.declared.Link.{Link}
-use Rattle.events.specs.declared.Link.TheVariants.{None, To}
 use Rattle.events.specs.Coordinates.{Coordinates, ahead}
 use Rattle.events.specs.Event.{Event}
 use Rattle.events.specs.Renaming.{rename_link, rename}
-use Rattle.checks.specs.declared.Check.{Check}
-use Rattle.checks.specs.declared.Check.TheVariants.{Passed, Refused}
 use Rattle.checks.specs.Checks.{outside, unpaired, alike, in_order, misordered, not_to_left, misled, mistaken, unfit_at, and_then, sized}
 use Rattle.checks.specs.Sound.{Sound}
 use Rattle.contours.specs.Result.{keep, in_result}
@@ -30,24 +29,24 @@ use Rattle.contours.proofs.Renamed.{result-kept, events-kept, edges-kept}
 
 -- ---- two checks with one number
 
-pub data SameNumber : Check → Check → Type 0 where
-  both-pass : SameNumber Passed Passed
-  both-refuse : {x y : Refusal} → y.number ≡ x.number → SameNumber (Refused x) (Refused y)
+pub data SameNumber : Verdict → Verdict → Type 0 where
+  both-pass : SameNumber (Ok tt) (Ok tt)
+  both-refuse : {x y : Refusal} → y.reason ≡ x.reason → SameNumber (Err x) (Err y)
 
-self : (a : Check) → SameNumber a a
-self Passed = both-pass
-self (Refused x) = both-refuse refl
+self : (a : Verdict) → SameNumber a a
+self (Ok _) = both-pass
+self (Err x) = both-refuse refl
 
 -- the second is asked only where the first passed
-then_same : {a a' : Check} (b b' : Check) → SameNumber a a' → (a ≡ Passed → SameNumber b b') → SameNumber (and_then a b) (and_then a' b')
+then_same : {a a' : Verdict} (b b' : Verdict) → SameNumber a a' → (a ≡ Ok tt → SameNumber b b') → SameNumber (and_then a b) (and_then a' b')
 unfolding and_then
 then_same b b' both-pass h = h refl
 then_same b b' (both-refuse e) h = both-refuse e
 
 -- what is told depends on whether the test strikes a member
 data Strikes (test : ℕ → Bool) (l : List ℕ) : Type 0 where
-  nowhere : lowest test l ≡ none → length (keep test l) ≡ 0 → Strikes test l
-  somewhere : (r k : ℕ) → lowest test l ≡ some r → length (keep test l) ≡ suc k → Strikes test l
+  nowhere : lowest test l ≡ None → length (keep test l) ≡ 0 → Strikes test l
+  somewhere : (r k : ℕ) → lowest test l ≡ Some r → length (keep test l) ≡ suc k → Strikes test l
 
 strikes : (test : ℕ → Bool) (l : List ℕ) → Strikes test l
 unfolding lowest keep
@@ -59,11 +58,11 @@ strikes test (x ∷ l) = go (test x) refl (strikes test l)
     go false e (nowhere p q) = nowhere (rw e p) (rw e q)
     go false e (somewhere r k p q) = somewhere r k (rw e p) (rw e q)
 
-told_same : (number : ℕ) (test test' : ℕ → Bool) (l l' : List ℕ) → length (keep test' l') ≡ length (keep test l) → SameNumber (told_lowest number test l) (told_lowest number test' l')
+told_same : (reason : Reason) (test test' : ℕ → Bool) (l l' : List ℕ) → length (keep test' l') ≡ length (keep test l) → SameNumber (told_lowest reason test l) (told_lowest reason test' l')
 unfolding told_lowest refused_at
-told_same number test test' l l' e = go (strikes test l) (strikes test' l')
+told_same reason test test' l l' e = go (strikes test l) (strikes test' l')
   where
-    go : Strikes test l → Strikes test' l' → SameNumber (refused_at number (lowest test l)) (refused_at number (lowest test' l'))
+    go : Strikes test l → Strikes test' l' → SameNumber (refused_at reason (lowest test l)) (refused_at reason (lowest test' l'))
     go (nowhere p q) (nowhere p' q') = rw (p, p') both-pass
     go (nowhere p q) (somewhere r' k' p' q') = absurd (suc-ne-zero k' (sym q' ∙ e ∙ q))
     go (somewhere r k p q) (nowhere p' q') = absurd (suc-ne-zero k (sym q ∙ sym e ∙ q'))
@@ -112,14 +111,14 @@ module _ (ρ : ℕ → ℕ) (inj : (a b : ℕ) → ρ a ≡ ρ b → a ≡ b) wh
 
 -- ---- one check
 
-module _ (ρ : ℕ → ℕ) (l l' : List ℕ) (p : Relisted ρ l l') (number : ℕ) where
+module _ (ρ : ℕ → ℕ) (l l' : List ℕ) (p : Relisted ρ l l') (reason : Reason) where
   -- for a test that is kept on the records looked at
-  check-same : (D : ℕ → Type 0) (test test' : ℕ → Bool) → ((r : ℕ) → D r → test' (ρ r) ≡ test r) → All D l → SameNumber (told_lowest number test l) (told_lowest number test' l')
+  check-same : (D : ℕ → Type 0) (test test' : ℕ → Bool) → ((r : ℕ) → D r → test' (ρ r) ≡ test r) → All D l → SameNumber (told_lowest reason test l) (told_lowest reason test' l')
   check-same D test test' k h =
-      told_same number test test' l l' (sym (length-perm (keep-perm test' p)) ∙ ap length (keep-map ρ D test test' k l h) ∙ length-map (keep test l) ρ)
+      told_same reason test test' l l' (sym (length-perm (keep-perm test' p)) ∙ ap length (keep-map ρ D test test' k l h) ∙ length-map (keep test l) ρ)
 
   -- for one that is kept on all
-  check-any : (test test' : ℕ → Bool) → ((r : ℕ) → test' (ρ r) ≡ test r) → SameNumber (told_lowest number test l) (told_lowest number test' l')
+  check-any : (test test' : ℕ → Bool) → ((r : ℕ) → test' (ρ r) ≡ test r) → SameNumber (told_lowest reason test l) (told_lowest reason test' l')
   check-any test test' k = check-same (λ r. Unit {0}) test test' (λ r u. k r) (all_of (λ (r : ℕ). Unit {0}) l (λ r m. tt))
 
 -- ---- the tests
@@ -141,10 +140,10 @@ module _ {P : Type 0} (C : Coordinates P) (ρ : ℕ → ℕ) (n : ℕ) (row row'
       go true e = rw (rn.kept r (ltb-true r n e))
       go false e = refl
 
-  to_left-kept : (l : Link) → not_to_left row' n (rename_link ρ l) ≡ not_to_left row n l
+  to_left-kept : (l : Option ℕ) → not_to_left row' n (rename_link ρ l) ≡ not_to_left row n l
   unfolding not_to_left rename_link outside rename with_contour
   to_left-kept None = refl
-  to_left-kept (To b) = rw (rn.within b) (go (ltb b n) refl)
+  to_left-kept (Some b) = rw (rn.within b) (go (ltb b n) refl)
     where
       go : (t : Bool) → ltb b n ≡ t → (not t || not (row' (ρ b)).left) ≡ (not t || not (row b).left)
       go true e = rw (rn.kept b (ltb-true b n e))
@@ -208,8 +207,8 @@ module _ {P : Type 0} (C : Coordinates P) (ρ : ℕ → ℕ) (n : ℕ) (row row'
     accept-same points marks room =
         then_same _ _ sized_same
         (λ e1. then_same _ _ (self (sized points marks))
-        (λ e2. then_same _ _ (check-any ρ _ _ (named-relisted ρ n row row' rn list list' p) 2 (unfit_at C row n) (unfit_at C row' n) unfit-kept)
-        (λ e3. then_same _ _ (check-any ρ list list' p 4 (misplaced C row n list) (misplaced C row' n list') misplaced-kept)
+        (λ e2. then_same _ _ (check-any ρ _ _ (named-relisted ρ n row row' rn list list' p) Reason.Coordinate (unfit_at C row n) (unfit_at C row' n) unfit-kept)
+        (λ e3. then_same _ _ (check-any ρ list list' p Reason.Link (misplaced C row n list) (misplaced C row' n list') misplaced-kept)
         (λ e4. let sounds = (soundly C row n list e3 e4).0 in
-        then_same _ _ (check-same ρ list list' p 8 (Sound C row n) (half_listed C row n list) (half_listed C row' n list') half-kept (all_of (Sound C row n) list sounds))
+        then_same _ _ (check-same ρ list list' p Reason.HalfEdge (Sound C row n) (half_listed C row n list) (half_listed C row' n list') half-kept (all_of (Sound C row n) list sounds))
         (λ e5. rw (events-kept C ρ n row row' rn list list' p sounds, edges-kept C ρ n row row' rn list list' p sounds) (self _))))))

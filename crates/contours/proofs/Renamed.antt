@@ -1,12 +1,11 @@
 -- Another numbering and another listing of an accepted list give the same table: a key holds no record number, and a place survives a renaming.
+use Rattle.std.proofs.Common.{None, Option, Some}
 use mathlib.Core.Path.{◌≡◌, refl, sym, ap, ap₂, ◌∙◌}
 use mathlib.Core.Logic.{◌≢◌}
 use mathlib.Core.Bool.{true, ◌&&◌}
 use mathlib.Core.List.{List, [], ◌∷◌, map, Memᴰ, Permᴰ}
 use Prim.Native.Nat.{ℕ}
 use lib.ListN.{length, length-map}
-use Rattle.events.specs.declared.Link.{Link}
-use Rattle.events.specs.declared.Link.TheVariants.{None, To}
 use Rattle.events.specs.Coordinates.{Coordinates}
 use Rattle.events.specs.Event.{Event, key}
 use Rattle.events.specs.Renaming.{rename_link, rename}
@@ -47,10 +46,10 @@ module _ {P : Type 0} (C : Coordinates P) (ρ : ℕ → ℕ) (n : ℕ) (row row'
     unfolding rename with_contour
     edge_kept = rw (result-kept, own)
 
-    below-kept : (s : List ℕ) (l : Link) → ((b : ℕ) → l ≡ To b → LeftIn row n b) → below_of row' (map ρ s) (rename_link ρ l) ≡ below_of row s l
+    below-kept : (s : List ℕ) (l : Option ℕ) → ((b : ℕ) → l ≡ Some b → LeftIn row n b) → below_of row' (map ρ s) (rename_link ρ l) ≡ below_of row s l
     unfolding below_of rename_link rename with_contour
     below-kept s None k = refl
-    below-kept s (To b) k = rw (rn.kept b (k b refl).inside, place_map ρ rn.injective s b)
+    below-kept s (Some b) k = rw (rn.kept b (k b refl).inside, place_map ρ rn.injective s b)
 
     pub row_kept : (s : List ℕ) → row_of row' (map ρ s) (ρ r) ≡ row_of row s r
     unfolding row_of rename with_contour

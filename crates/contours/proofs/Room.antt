@@ -1,5 +1,7 @@
 -- Lent arrays that are never too short (refusal 5): a place for each listed event, and half as many for contours and for holes.
+use Rattle.refusals.specs.Refusals.{number}
 use mathlib.Core.Path.{ap}
+use Rattle.refusals.specs.declared.Reason.TheVariants as Reason
 use mathlib.Core.Logic.{◌≢◌}
 use mathlib.Core.Bool.{true}
 use mathlib.Core.List.{List}
@@ -39,16 +41,16 @@ module _ {P : Type 0} (C : Coordinates P) (row : ℕ → Event P) (L : OrderLaws
       omega (arith, halves (same C) k at (good C row n void list ok) (by_value C row n void list ok L) (sides C row n void list ok), lefts-open C row void list, open-le (λ j. true) 0 (replicate k 0), length-replicate {A = ℕ} k 0, size C row void list, length-perm (sorted C row void list))
 
   module _ (points marks : ℕ) (room : Room) (h : Roomy list room) (x : Refusal) where
-    pub cause-not-5 : Cause C row n points marks list room x → x.number ≢ 5
-    cause-not-5 (list1 l e) q = omega (arith, ap (λ (y : Refusal). y.number) e)
-    cause-not-5 (size1 l m e) q = omega (arith, ap (λ (y : Refusal). y.number) e)
-    cause-not-5 (unfit2 t) q = omega (arith, t.number_is)
-    cause-not-5 (mistake4 u t) q = omega (arith, t.number_is)
-    cause-not-5 (half8 u m t) q = omega (arith, t.number_is)
+    pub cause-not-5 : Cause C row n points marks list room x → x.reason ≢ Reason.Room
+    cause-not-5 (list1 l e) q = omega (arith, ap (λ (y : Refusal). number y.reason) e, ap number q)
+    cause-not-5 (size1 l m e) q = omega (arith, ap (λ (y : Refusal). number y.reason) e, ap number q)
+    cause-not-5 (unfit2 t) q = omega (arith, ap number t.reason_is, ap number q)
+    cause-not-5 (mistake4 u t) q = omega (arith, ap number t.reason_is, ap number q)
+    cause-not-5 (half8 u m t) q = omega (arith, ap number t.reason_is, ap number q)
     cause-not-5 (room5 u m t s) q = short s
       where
         half : length (result_edges row list) + length (result_edges row list) ≤ length (results row list)
-        half = edges-half (row 0).point (accepted-by C row n list (none_told 2 _ (named row n list) u) (none_told 4 _ list m) (none_told 8 _ list t))
+        half = edges-half (row 0).point (accepted-by C row n list (none_told Reason.Coordinate _ (named row n list) u) (none_told Reason.Link _ list m) (none_told Reason.HalfEdge _ list t))
 
         short : Short room (length (results row list)) (length (result_edges row list)) x → ⊥
         short (short-points a e) = omega (arith, a, h.points, results-few)

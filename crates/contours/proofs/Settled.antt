@@ -1,28 +1,28 @@
 -- The pool after contour numbers are written: every record has its own and is otherwise as it was.
+use Rattle.std.proofs.Common.{Option}
 use mathlib.Core.Path.{◌≡◌, refl, ap, ◌∙◌}
 use mathlib.Core.Logic.{◌≢◌}
 use Prim.Native.Nat.{ℕ, zero, suc, ◌<◌, ◌≤◌}
 use native.Mathlib.Omega.{arith}
 use native.Mathlib.Decide.{ℕ_discrete}
-use Rattle.events.specs.declared.Link.{Link}
 use Rattle.events.specs.Store.{Store}
 use Rattle.events.proofs.Stored.{Stored}
 use Rattle.contours.specs.Connect.{with_contour, settle, settled}
 
 module _ {P S : Type 0} (K : Store P S) (stored : Stored K) where
-  settle-size : (s : S) (r : ℕ) (l : Link) → K.size (settle K s r l) ≡ K.size s
+  settle-size : (s : S) (r : ℕ) (l : Option ℕ) → K.size (settle K s r l) ≡ K.size s
   unfolding settle
   settle-size s r l = stored.size-store s r (with_contour l (K.row_at s r))
 
-  settle-here : (s : S) (r : ℕ) (l : Link) → r < K.size s → K.row_at (settle K s r l) r ≡ with_contour l (K.row_at s r)
+  settle-here : (s : S) (r : ℕ) (l : Option ℕ) → r < K.size s → K.row_at (settle K s r l) r ≡ with_contour l (K.row_at s r)
   unfolding settle
   settle-here s r l h = stored.here s r (with_contour l (K.row_at s r)) h
 
-  settle-away : (s : S) (r j : ℕ) (l : Link) → j ≢ r → K.row_at (settle K s r l) j ≡ K.row_at s j
+  settle-away : (s : S) (r j : ℕ) (l : Option ℕ) → j ≢ r → K.row_at (settle K s r l) j ≡ K.row_at s j
   unfolding settle
   settle-away s r j l h = stored.away s r j (with_contour l (K.row_at s r)) h
 
-  module _ (number : ℕ → Link) (s : S) where
+  module _ (number : ℕ → Option ℕ) (s : S) where
     pub settled-size : (k : ℕ) → K.size (settled K number k s) ≡ K.size s
     unfolding settled
     settled-size zero = refl

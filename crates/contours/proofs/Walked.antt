@@ -1,9 +1,9 @@
 -- What a walk is, edge by edge, and what all walks together do: each position is walked once; and where every point ends an even number of
 -- edges, each walk comes home. The idea of the second: (open ends at v) + [v is where the walk stands] + [v is home] is even for every v.
+use Rattle.std.proofs.Common.{Option, None, Some}
 use mathlib.Core.Path.{◌≡◌, refl, sym, ap, ◌∙◌}
 use mathlib.Core.Logic.{◌≢◌, ◌⊎◌, inl, inr}
 use mathlib.Core.Bool.{Bool, true, false}
-use mathlib.Core.Option.{Option, none, some}
 use mathlib.Core.List.{List, [], ◌∷◌, ◌++◌, map, Memᴰ}
 use Prim.Native.Nat.{ℕ, zero, suc, ◌+◌, ◌≤◌, ◌<◌, ◌%◌}
 use native.Mathlib.Omega.{arith}
@@ -142,8 +142,8 @@ module _ {P : Type 0} (same : P → P → Bool) (n : ℕ) (row : ℕ → Row P) 
 
       go : (o : Option ℕ) → seek (mk c ms i) (tries same n row (oth i)) ≡ o → Rest
           → Steps h c i ms (i ∷ onward o (λ j. same (pt h) (pt j)) (λ j. walk same n row k (pt h) c (mk c ms i) j))
-      go none q w = last l e (inr (λ j m s o. seek-none _ _ q j (tries-in same n row (oth i) j m (open-mark c ms f i l e j o).1 s) o))
-      go (some j) q w =
+      go None q w = last l e (inr (λ j m s o. seek-none _ _ q j (tries-in same n row (oth i) j m (open-mark c ms f i l e j o).1 s) o))
+      go (Some j) q w =
           let s : (get_or (mk c ms i) j 1 ≡ 0) × Memᴰ j (tries same n row (oth i)) = seek-some _ _ j q in
           stop (same (pt h) (pt j)) j refl (tries-out same n row (oth i) j (good.near i l) s.1) s.0 w
 

@@ -1,7 +1,7 @@
 -- Every wall is in exactly one outline, once. The wall from a corner to the next is the edge walked there; a result edge is walked once, so at one place.
+use Rattle.std.proofs.Common.{Some}
 use mathlib.Core.Path.{◌≡◌, refl, sym, ap, ◌∙◌}
 use mathlib.Core.Bool.{Bool, true, false, not, cond, ◌&&◌, ◌||◌, false≢true}
-use mathlib.Core.Option.{some}
 use mathlib.Core.List.{List, [], ◌∷◌, map, Memᴰ}
 use Prim.Native.Nat.{ℕ, zero, suc, ◌+◌, ◌<◌}
 use native.Mathlib.Nat.{not-suc-le-zero, le_of_suc-le-suc}
@@ -142,7 +142,7 @@ module _ {P S : Type 0} (C : Coordinates P) (K : Store P S) (L : OrderLaws C)
   ok : Accepted C recs (K.size s) list
   ok = (connected-is C K s points marks list room f e).ok
 
-  is-given : given (connect C K s points marks list room) ≡ some f
+  is-given : given (connect C K s points marks list room) ≡ Some f
   unfolding given
   is-given = ap given e
 

@@ -1,14 +1,10 @@
 -- Connection, whole: the checks, then the contours of the table; contour numbers found in the pool are forgotten, and those given are written.
-use Rattle.std.proofs.Math.Option.{Option, none, some}
-use Rattle.std.specs.Prelude.{List, ℕ, zero, suc, length, get_or}
+use Rattle.refusals.specs.Refusals.{Verdict}
+use Rattle.std.specs.Prelude.{List, ℕ, zero, suc, length, get_or, Err, None, Ok, Some, Option}
 use Rattle.refusals.specs.declared.Refusal.{Refusal}
-use Rattle.events.specs.declared.Link.{Link}
-use Rattle.events.specs.declared.Link.TheVariants.{None, To}
 use Rattle.events.specs.Coordinates.{Coordinates, same}
 use Rattle.events.specs.Event.{Event}
 use Rattle.events.specs.Store.{Store}
-use Rattle.checks.specs.declared.Check.{Check}
-use Rattle.checks.specs.declared.Check.TheVariants.{Passed, Refused}
 use Rattle.contours.specs.Result.{ordered}
 use Rattle.contours.specs.Table.{Row, place, table, row_at}
 use Rattle.contours.specs.Contours.{Contour, Answer, done, halted, trace}
@@ -18,11 +14,11 @@ use Rattle.contours.specs.Accept.{Room, accept}
 -- ---- contour numbers in the pool
 
 -- of a mark
-unfoldable pub contour_of : ℕ → Link
+unfoldable pub contour_of : ℕ → Option ℕ
 contour_of zero = None
-contour_of (suc c) = To c
+contour_of (suc c) = Some c
 
-unfoldable pub with_contour : {P : Type 0} → Link → Event P → Event P
+unfoldable pub with_contour : {P : Type 0} → Option ℕ → Event P → Event P
 with_contour l e =
     record {
       point = e.point;
@@ -40,16 +36,16 @@ with_contour l e =
 
 module _ {P S : Type 0} (K : Store P S) where
   -- nothing of the record but its contour number
-  unfoldable pub settle : S → ℕ → Link → S
+  unfoldable pub settle : S → ℕ → Option ℕ → S
   settle s r l = K.store s r (with_contour l (K.row_at s r))
 
   -- the first k records
-  unfoldable pub settled : (ℕ → Link) → ℕ → S → S
+  unfoldable pub settled : (ℕ → Option ℕ) → ℕ → S → S
   settled number zero s = s
   settled number (suc k) s = settle (settled number k s) k (number k)
 
 -- the contour number of a record: of the mark at its position among the ordered records; a record that is not among them has none
-unfoldable pub number_in : List ℕ → List ℕ → ℕ → Link
+unfoldable pub number_in : List ℕ → List ℕ → ℕ → Option ℕ
 number_in s ms r = contour_of (get_or ms (place s r) 0)
 
 -- ---- the answer
@@ -68,9 +64,9 @@ pub data Outcome (P S : Type 0) : Type 0 where
 
 -- what is given, if anything is
 unfoldable pub given : {P S : Type 0} → Outcome P S → Option (Finished P S)
-given (refused r) = none
-given (stopped r f) = some f
-given (connected f) = some f
+given (refused r) = None
+given (stopped r f) = Some f
+given (connected f) = Some f
 
 module _ {P S : Type 0} (C : Coordinates P) (K : Store P S) (s : S) where
   abbrev pub records : ℕ → Event P
@@ -93,14 +89,14 @@ module _ {P S : Type 0} (C : Coordinates P) (K : Store P S) (s : S) where
     -- a position is told as the record there
     unfoldable pub outcome_of : Answer → Outcome P S
     outcome_of (done ms cs) = connected (finished ms cs)
-    outcome_of (halted number i ms cs) = stopped (record { number = number; place = get_or (ordered records C list) i 0 }) (finished ms cs)
+    outcome_of (halted reason i ms cs) = stopped (record { reason = reason; place = get_or (ordered records C list) i 0 }) (finished ms cs)
 
     unfoldable pub traced : Answer
     traced = trace (same C) (length rows) rows_at
 
-    unfoldable pub after_checks : Check → Outcome P S
-    after_checks Passed = outcome_of traced
-    after_checks (Refused r) = refused r
+    unfoldable pub after_checks : Verdict → Outcome P S
+    after_checks (Ok _) = outcome_of traced
+    after_checks (Err r) = refused r
 
   -- `points` and `marks` are the lengths of the pool's arrays
   unfoldable pub connect : (points marks : ℕ) → List ℕ → Room → Outcome P S

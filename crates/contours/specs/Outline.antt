@@ -1,6 +1,5 @@
 -- What is told of each contour: corners, parent, depth, holes, and whether it is open.
-use Rattle.std.specs.Prelude.{Bool, false, not, List, [], ◌∷◌, ℕ, suc, ◌+◌, length, get_or, eqb}
-use Rattle.std.proofs.Math.Option.{Option, none, some}
+use Rattle.std.specs.Prelude.{Bool, false, not, List, [], ◌∷◌, ℕ, suc, ◌+◌, length, get_or, eqb, Option, None, Some}
 use Rattle.checks.specs.Numbers.{numbers_from}
 use Rattle.contours.specs.Result.{keep}
 use Rattle.contours.specs.Table.{Row}
@@ -30,11 +29,11 @@ closes same [] = false
 closes same (p ∷ l) = same p (final p l)
 
 unfoldable pub is_parent : ℕ → Option ℕ → Bool
-is_parent c none = false
-is_parent c (some p) = eqb p c
+is_parent c None = false
+is_parent c (Some p) = eqb p c
 
 unfoldable pub holes_of : List Contour → ℕ → List ℕ
-holes_of cs c = keep (λ j. is_parent c (get_or cs j (contour [] none 0)).parent) (numbers_from 0 (length cs))
+holes_of cs c = keep (λ j. is_parent c (get_or cs j (contour [] None 0)).parent) (numbers_from 0 (length cs))
 
 module _ {P : Type 0} (same : P → P → Bool) (n : ℕ) (row : ℕ → Row P) where
   unfoldable pub outline : List Contour → ℕ → Contour → Outline P

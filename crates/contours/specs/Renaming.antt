@@ -65,6 +65,6 @@ pub record SameFinished {P S : Type 0} (K : Store P S) (ρ : ℕ → ℕ) (n : �
 
 -- refusals keep their number, and 9 tells the renamed record
 pub data Alike {P S : Type 0} (K : Store P S) (ρ : ℕ → ℕ) (n : ℕ) : Outcome P S → Outcome P S → Type 0 where
-  refused_alike : {x y : Refusal} → y.number ≡ x.number → Alike K ρ n (refused x) (refused y)
-  stopped_alike : {x y : Refusal} {f g : Finished P S} → y ≡ record { number = x.number; place = ρ x.place } → SameFinished K ρ n f g → Alike K ρ n (stopped x f) (stopped y g)
+  refused_alike : {x y : Refusal} → y.reason ≡ x.reason → Alike K ρ n (refused x) (refused y)
+  stopped_alike : {x y : Refusal} {f g : Finished P S} → y ≡ record { reason = x.reason; place = ρ x.place } → SameFinished K ρ n f g → Alike K ρ n (stopped x f) (stopped y g)
   connected_alike : {f g : Finished P S} → SameFinished K ρ n f g → Alike K ρ n (connected f) (connected g)

@@ -1,7 +1,6 @@
 -- Round a point (`precompute_iteration_order`, `get_next_pos`): right ends upwards, then left ends downwards, and round again.
 -- A table is here its size n and its rows as a function of the position.
-use Rattle.std.specs.Prelude.{Bool, true, false, not, cond, ◌&&◌, List, [], ◌∷◌, ◌++◌, ℕ, zero, suc, ◌+◌, ◌-◌, get_or}
-use Rattle.std.proofs.Math.Option.{Option, none, some}
+use Rattle.std.specs.Prelude.{Bool, true, false, not, cond, ◌&&◌, List, [], ◌∷◌, ◌++◌, ℕ, zero, suc, ◌+◌, ◌-◌, get_or, Option, None, Some}
 use Rattle.checks.specs.Numbers.{numbers_from}
 use Rattle.contours.specs.Result.{keep}
 use Rattle.contours.specs.Table.{Row}
@@ -18,8 +17,8 @@ is_open (suc c) = false
 
 -- the first position of a list that is not yet walked; one outside the marks counts as walked
 unfoldable pub seek : List ℕ → List ℕ → Option ℕ
-seek ms [] = none
-seek ms (i ∷ l) = cond (is_open (get_or ms i 1)) (some i) (seek ms l)
+seek ms [] = None
+seek ms (i ∷ l) = cond (is_open (get_or ms i 1)) (Some i) (seek ms l)
 
 module _ {P : Type 0} (same : P → P → Bool) (n : ℕ) (row : ℕ → Row P) where
   -- the right ends at p among k positions from i on, upwards; the left ends, downwards

@@ -1,9 +1,7 @@
 -- The table: the result events by their positions in event order, every link a position. From here on nothing names a record number.
-use Rattle.std.specs.Prelude.{Bool, true, false, cond, List, [], ◌∷◌, map, ℕ, suc, get_or, eqb}
+use Rattle.std.specs.Prelude.{Bool, true, false, cond, List, [], ◌∷◌, map, ℕ, suc, get_or, eqb, None, Option, Some}
 use Rattle.events.specs.declared.ResultTransition.{ResultTransition}
 use Rattle.events.specs.declared.ResultTransition.TheVariants.{None as NoTransition, InOut, OutIn}
-use Rattle.events.specs.declared.Link.{Link}
-use Rattle.events.specs.declared.Link.TheVariants.{None, To}
 use Rattle.events.specs.Coordinates.{Coordinates}
 use Rattle.events.specs.Event.{Event}
 use Rattle.contours.specs.Result.{ordered}
@@ -32,9 +30,9 @@ is_out_in OutIn = true
 
 module _ {P : Type 0} (row : ℕ → Event P) where
   -- among the ordered records s
-  unfoldable pub below_of : List ℕ → Link → Below
+  unfoldable pub below_of : List ℕ → Option ℕ → Below
   below_of s None = nothing
-  below_of s (To b) = over (place s b) (is_out_in (row b).transition)
+  below_of s (Some b) = over (place s b) (is_out_in (row b).transition)
 
   unfoldable pub row_of : List ℕ → ℕ → Row P
   row_of s r = record { point = (row r).point; left = (row r).left; other = place s (row r).partner; below = below_of s (row r).below }

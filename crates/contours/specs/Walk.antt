@@ -1,6 +1,5 @@
 -- One contour: its trail, the positions from which its edges are walked one after the other, and its corners.
-use Rattle.std.specs.Prelude.{Bool, true, false, List, [], ◌∷◌, map, ℕ, zero, suc, set}
-use Rattle.std.proofs.Math.Option.{Option, none, some}
+use Rattle.std.specs.Prelude.{Bool, true, false, List, [], ◌∷◌, map, ℕ, zero, suc, set, Option, None, Some}
 use Rattle.contours.specs.Table.{Row}
 use Rattle.contours.specs.Round.{seek, tries}
 
@@ -11,8 +10,8 @@ halt false f j = f j
 
 unfoldable pub onward : Option ℕ → (ℕ → Bool) → (ℕ → List ℕ) → List ℕ
 unfolding halt
-onward none s f = []
-onward (some j) s f = halt (s j) f j
+onward None s f = []
+onward (Some j) s f = halt (s j) f j
 
 module _ {P : Type 0} (same : P → P → Bool) (n : ℕ) (row : ℕ → Row P) where
   -- both ends of the edge from i are walked in contour c

@@ -1,7 +1,6 @@
 -- Is every wall in exactly one outline? Here a contour is its corners and a wall is a result edge, named by its left record. Several walls may have the
 -- same two ends, so the answer is a matching: one wall for each two neighbouring corners, and each wall at one place.
-use Rattle.std.specs.Prelude.{◌≡◌, Bool, true, not, ◌&&◌, ◌||◌, ℕ, suc, ◌<◌, length, get_or}
-use Rattle.std.proofs.Math.Option.{Option}
+use Rattle.std.specs.Prelude.{◌≡◌, Bool, true, not, ◌&&◌, ◌||◌, ℕ, suc, ◌<◌, length, get_or, Option}
 use mathlib.Core.List.{List, [], map, Memᴰ}
 use Rattle.events.specs.Coordinates.{Coordinates, same}
 use Rattle.events.specs.Event.{Event}

@@ -1,11 +1,12 @@
 -- Two segments of which one lies all above the other have boxes that share nothing, whatever the x: there is no height in common.
+use Rattle.std.proofs.Common.{None, Option}
 use mathlib.Core.Path.{◌≡◌, refl}
 use mathlib.Core.Bool.{Bool, true, false, cond}
 use lib.Ieee.{Float, lt, le}
 use Rattle.numbers.specs.Binary64.{minimum, maximum}
 use Rattle.numbers.specs.declared.Coordinate.{Coordinate}
+use Rattle.numbers.specs.declared.BoundingBox.{BoundingBox}
 use Rattle.numbers.proofs.OneWay.{one_way, not-most, lesser-number, greater-number}
-use Rattle.crossing.specs.declared.boxes.Boxes.TheVariants.{Apart}
 use Rattle.crossing.specs.Boxes.{lesser, greater, box_from, shared_box}
 
 -- each of a and b is less than each of c and d
@@ -36,19 +37,22 @@ no-height {a} {b} {c} {d} r = go (lt a b) (lt c d)
     go false true = gap r.b-c r.a-d r.a_c
     go false false = gap r.b-d r.a_c r.a-d
 
-box-apart : (p q : Coordinate) → le p.y q.y ≡ false → box_from p q ≡ Apart
+abbrev nothing : Option BoundingBox
+nothing = None
+
+box-apart : (p q : Coordinate) → le p.y q.y ≡ false → box_from p q ≡ None
 unfolding box_from
 box-apart p q h = rw h (alike (le p.x q.x))
   where
-    alike : (t : Bool) → cond t Apart Apart ≡ Apart
+    alike : (t : Bool) → cond t nothing nothing ≡ nothing
     alike true = refl
     alike false = refl
 
 module _ (a b c d : Coordinate) (r : AllLess a.y b.y c.y d.y) where
-  pub box-above : shared_box a b c d ≡ Apart
+  pub box-above : shared_box a b c d ≡ None
   unfolding shared_box
   box-above = box-apart _ _ (no-height r).above
 
-  pub box-below : shared_box c d a b ≡ Apart
+  pub box-below : shared_box c d a b ≡ None
   unfolding shared_box
   box-below = box-apart _ _ (no-height r).below

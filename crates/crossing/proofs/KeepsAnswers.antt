@@ -1,4 +1,7 @@
 -- Whether one of eight numbers is not finite asks neither for their naming nor for a zero's sign; where none is, the answer keeps its bits.
+use Rattle.std.proofs.Common.{Err, Ok, Result}
+use Rattle.refusals.specs.declared.Reason.TheVariants as Reason
+use Rattle.refusals.specs.declared.Refusal.{Refusal}
 use mathlib.Core.Path.{◌≡◌, refl, sym, ap, ap₂, ◌∙◌}
 use mathlib.Core.Bool.{Bool, true, false, ◌||◌, cond, true≢false, or_assoc, or_comm, or-false}
 use mathlib.Core.List.{List, [], ◌∷◌}
@@ -14,8 +17,6 @@ use Rattle.numbers.specs.Points.{unsigned_point}
 use Rattle.numbers.specs.declared.Coordinate.{Coordinate}
 use Rattle.numbers.proofs.SignOfZero.{not_finite-unsigned}
 use Rattle.crossing.specs.declared.LineIntersection.{LineIntersection}
-use Rattle.crossing.specs.declared.Crossed.{Crossed}
-use Rattle.crossing.specs.declared.Crossed.TheVariants.{Refused, Found}
 use Rattle.crossing.specs.declared.modes.Segment.{Segment}
 use Rattle.crossing.specs.declared.modes.Pair.{Pair}
 use Rattle.crossing.specs.Modes.{unsigned_segment}
@@ -95,8 +96,8 @@ unfolding any_stray
 refused p = found (numbers_of p) ∙ simp (or_assoc, or-false)
 
 -- the call's answer but for the place
-abbrev outcome : LineIntersection → Bool → Crossed
-outcome l b = cond b (Refused (record { number = 2; place = 0 })) (Found l)
+abbrev outcome : LineIntersection → Bool → Result LineIntersection Refusal
+outcome l b = cond b (Err (record { reason = Reason.Coordinate; place = 0 })) (Ok l)
 
 call-is : (mode : ℕ) (p : Pair) → without_place (call_in mode p) ≡ outcome (answer_in mode p) (stray p)
 unfolding crossing_in without_place
@@ -104,7 +105,7 @@ call-is mode p =
     let first = first_not_finite (numbers_of p) in
     go (ltb first 8) first (answer_in mode p) ∙ ap (outcome (answer_in mode p)) (refused p)
   where
-    go : (b : Bool) (n : ℕ) (l : LineIntersection) → without_place (cond b (Refused (record { number = 2; place = n })) (Found l)) ≡ outcome l b
+    go : (b : Bool) (n : ℕ) (l : LineIntersection) → without_place (cond b (Err (record { reason = Reason.Coordinate; place = n })) (Ok l)) ≡ outcome l b
     go true n l = refl
     go false n l = refl
 
@@ -113,4 +114,4 @@ keeps-answers mode m p q h k = call-is mode p ∙ rw (stray-alike p q k) (go (st
   where
     go : (b : Bool) → stray p ≡ b → outcome (answer_in mode p) b ≡ outcome (answer_in mode q) b
     go true e = refl
-    go false e = ap Found (keeps-bits mode m p q (finite-pair p e h) k)
+    go false e = ap Ok (keeps-bits mode m p q (finite-pair p e h) k)

@@ -1,13 +1,11 @@
 -- The box that two segments share, and the clamp of an answer to it (01, 'Crossing': 'boxes', 'clamp').
-use Rattle.std.specs.Prelude.{Bool, cond, ◌||◌, Float}
+use Rattle.std.specs.Prelude.{Bool, cond, ◌||◌, Float, Option, None, Some}
 use Rattle.std.specs.Float.Ieee.{lt, le, ne}
 use Rattle.numbers.specs.Binary64.{minimum, maximum}
 use Rattle.numbers.specs.declared.Coordinate.{Coordinate}
 use Rattle.numbers.specs.declared.BoundingBox.{BoundingBox}
 use Rattle.crossing.specs.declared.LineIntersection.{LineIntersection}
-use Rattle.crossing.specs.declared.LineIntersection.TheVariants.{None, Point, Overlap, Lost}
-use Rattle.crossing.specs.declared.boxes.Boxes.{Boxes}
-use Rattle.crossing.specs.declared.boxes.Boxes.TheVariants.{Apart, Share}
+use Rattle.crossing.specs.declared.LineIntersection.TheVariants.{None as Nothing, Point, Overlap, Lost}
 
 -- ---- the box
 
@@ -19,11 +17,11 @@ abbrev pub greater : Float → Float → Float
 greater a b = cond (lt a b) b a
 
 -- a box from its lower left to its upper right corner, if they lie so
-unfoldable pub box_from : Coordinate → Coordinate → Boxes
-box_from start end = cond (le start.x end.x) (cond (le start.y end.y) (Share (record { min = start; max = end })) Apart) Apart
+unfoldable pub box_from : Coordinate → Coordinate → Option BoundingBox
+box_from start end = cond (le start.x end.x) (cond (le start.y end.y) (Some (record { min = start; max = end })) None) None
 
 -- what the boxes of a1-a2 and b1-b2 share, edges included
-unfoldable pub shared_box : Coordinate → Coordinate → Coordinate → Coordinate → Boxes
+unfoldable pub shared_box : Coordinate → Coordinate → Coordinate → Coordinate → Option BoundingBox
 shared_box a1 a2 b1 b2 =
     box_from
     (record {
@@ -45,7 +43,7 @@ unfoldable pub clamp : Coordinate → BoundingBox → Coordinate
 clamp p bb = record { x = within p.x bb.min.x bb.max.x; y = within p.y bb.min.y bb.max.y }
 
 unfoldable pub constrained_to : LineIntersection → BoundingBox → LineIntersection
-constrained_to None bb = None
+constrained_to Nothing bb = Nothing
 constrained_to (Point p) bb = Point (clamp p bb)
 constrained_to (Overlap p q) bb = Overlap (clamp p bb) (clamp q bb)
 constrained_to Lost bb = Lost
@@ -57,7 +55,7 @@ abbrev pub is_lost : Coordinate → Bool
 is_lost p = ne p.x p.x || ne p.y p.y
 
 unfoldable pub or_lost : LineIntersection → LineIntersection
-or_lost None = None
+or_lost Nothing = Nothing
 or_lost (Point p) = cond (is_lost p) Lost (Point p)
 or_lost (Overlap p q) = cond (is_lost p) Lost (cond (is_lost q) Lost (Overlap p q))
 or_lost Lost = Lost

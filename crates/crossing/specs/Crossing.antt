@@ -1,22 +1,21 @@
 -- Crossing of two segments, a1-a2 and b1-b2 (01, 'Crossing'): named as the mode has them, nothing where their boxes lie apart, else what the lines
 -- have in common, clamped to the shared box, or Lost. It is a computation on binary64, not the exact crossing.
-use Rattle.std.specs.Prelude.{cond, [], ◌∷◌, ℕ, ltb, Float}
+use Rattle.std.specs.Prelude.{cond, [], ◌∷◌, ℕ, ltb, Float, Err, Ok, Option, None, Result, Some}
+use Rattle.refusals.specs.declared.Reason.TheVariants as Reason
+use Rattle.refusals.specs.declared.Refusal.{Refusal}
 use Rattle.numbers.specs.Binary64.{first_not_finite}
 use Rattle.numbers.specs.declared.Coordinate.{Coordinate}
+use Rattle.numbers.specs.declared.BoundingBox.{BoundingBox}
 use Rattle.crossing.specs.declared.LineIntersection.{LineIntersection}
-use Rattle.crossing.specs.declared.LineIntersection.TheVariants.{None}
-use Rattle.crossing.specs.declared.boxes.Boxes.{Boxes}
-use Rattle.crossing.specs.declared.boxes.Boxes.TheVariants.{Apart, Share}
-use Rattle.crossing.specs.declared.Crossed.{Crossed}
-use Rattle.crossing.specs.declared.Crossed.TheVariants.{Refused, Found}
+use Rattle.crossing.specs.declared.LineIntersection.TheVariants.{None as Nothing}
 use Rattle.crossing.specs.declared.modes.Pair.{Pair}
 use Rattle.crossing.specs.Boxes.{shared_box, constrained_to, or_lost}
 use Rattle.crossing.specs.Lines.{intersection_impl}
 use Rattle.crossing.specs.Modes.{segment, pair, named_in}
 
-unfoldable pub in_box : Boxes → LineIntersection → LineIntersection
-in_box Apart found = None
-in_box (Share bb) found = or_lost (constrained_to found bb)
+unfoldable pub in_box : Option BoundingBox → LineIntersection → LineIntersection
+in_box None found = Nothing
+in_box (Some bb) found = or_lost (constrained_to found bb)
 
 -- of two segments as they are named
 unfoldable pub intersection_of : Coordinate → Coordinate → Coordinate → Coordinate → LineIntersection
@@ -30,8 +29,8 @@ unfoldable pub intersection_in : ℕ → Coordinate → Coordinate → Coordinat
 intersection_in mode a1 a2 b1 b2 = intersection_of_pair (named_in mode (pair (segment a1 a2) (segment b1 b2)))
 
 -- the public call on eight numbers: refusal 2 with the place of the first that is not finite, as the caller named them
-unfoldable pub crossing_in : ℕ → Float → Float → Float → Float → Float → Float → Float → Float → Crossed
+unfoldable pub crossing_in : ℕ → Float → Float → Float → Float → Float → Float → Float → Float → Result LineIntersection Refusal
 crossing_in mode ax ay bx by cx cy dx dy =
     let first = first_not_finite (ax ∷ ay ∷ bx ∷ by ∷ cx ∷ cy ∷ dx ∷ dy ∷ []) in
-    cond (ltb first 8) (Refused (record { number = 2; place = first }))
-    (Found (intersection_in mode (record { x = ax; y = ay }) (record { x = bx; y = by }) (record { x = cx; y = cy }) (record { x = dx; y = dy })))
+    cond (ltb first 8) (Err (record { reason = Reason.Coordinate; place = first }))
+    (Ok (intersection_in mode (record { x = ax; y = ay }) (record { x = bx; y = by }) (record { x = cx; y = cy }) (record { x = dx; y = dy })))

@@ -1,11 +1,10 @@
 -- The promise of the ordered mode (02, #102): the answer, Lost among them, is the same to the last bit under all eight namings of two segments and with
 -- either sign of each zero. Answers are equal as data: a corner's numbers have one bit pattern. The laws are `proofs/KeepsBits` and `proofs/KeepsAnswers`.
-use Rattle.std.specs.Prelude.{◌≡◌, ◌≢◌, Bool, cond, ℕ, Float}
+use Rattle.std.specs.Prelude.{◌≡◌, ◌≢◌, Bool, cond, ℕ, Float, Err, Ok, Result}
+use Rattle.refusals.specs.declared.Refusal.{Refusal}
 use Rattle.numbers.specs.Binary64.{Held, Finite}
 use Rattle.numbers.specs.declared.Coordinate.{Coordinate}
 use Rattle.crossing.specs.declared.LineIntersection.{LineIntersection}
-use Rattle.crossing.specs.declared.Crossed.{Crossed}
-use Rattle.crossing.specs.declared.Crossed.TheVariants.{Refused, Found}
 use Rattle.crossing.specs.declared.modes.Segment.{Segment}
 use Rattle.crossing.specs.declared.modes.Pair.{Pair}
 use Rattle.crossing.specs.Modes.{plain, segment, pair, unsigned_segment}
@@ -58,14 +57,14 @@ abbrev pub KeepsBits : Type 0
 KeepsBits = (mode : ℕ) → mode ≢ plain → (p q : Pair) → Each Finite p → Alike p q → answer_in mode p ≡ answer_in mode q
 
 -- the public call
-abbrev pub call_in : ℕ → Pair → Crossed
+abbrev pub call_in : ℕ → Pair → Result LineIntersection Refusal
 call_in mode p =
     crossing_in mode p.a.from.x p.a.from.y p.a.to.x p.a.to.y p.b.from.x p.b.from.y p.b.to.x p.b.to.y
 
 -- a refusal's place is as the caller named the numbers, and no part of the promise
-unfoldable pub without_place : Crossed → Crossed
-without_place (Refused r) = Refused (record { number = r.number; place = 0 })
-without_place (Found l) = Found l
+unfoldable pub without_place : Result LineIntersection Refusal → Result LineIntersection Refusal
+without_place (Err r) = Err (record { reason = r.reason; place = 0 })
+without_place (Ok l) = Ok l
 
 -- of any numbers: where one is not finite both are refused
 abbrev pub KeepsAnswers : Type 0

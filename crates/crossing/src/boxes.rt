@@ -5,12 +5,6 @@ ghost use Rattle.crossing.specs.Boxes.{lesser, greater, box_from, shared_box, wi
 use crate::LineIntersection;
 use numbers::{BoundingBox, Coordinate, max, min};
 
-#[derive(Clone, Copy)]
-pub enum Boxes {
-    Apart,
-    Share(BoundingBox),
-}
-
 fn lesser_of(a: f64, b: f64) -> f64
     ensures { result ≡ lesser a b }
 {
@@ -23,18 +17,18 @@ fn greater_of(a: f64, b: f64) -> f64
     if a < b { b } else { a }
 }
 
-fn box_from(start: Coordinate, end: Coordinate) -> Boxes
+fn box_from(start: Coordinate, end: Coordinate) -> Option<BoundingBox>
     ensures { result ≡ box_from start end }
 {
     if start.x <= end.x {
         if start.y <= end.y {
-            return Boxes::Share(BoundingBox {
+            return Some(BoundingBox {
                 min: start,
                 max: end,
             });
         }
     }
-    Boxes::Apart
+    None
 }
 
 pub fn get_intersection_bounding_box(
@@ -42,7 +36,7 @@ pub fn get_intersection_bounding_box(
     a2: Coordinate,
     b1: Coordinate,
     b2: Coordinate,
-) -> Boxes
+) -> Option<BoundingBox>
     ensures { result ≡ shared_box a1 a2 b1 b2 }
 {
     let start = Coordinate {

@@ -5,7 +5,7 @@ ghost use Rattle.std.specs.Prelude.{◌≡◌};
 ghost use Rattle.crossing.specs.Crossing.{intersection_of, intersection_in, crossing_in};
 
 use numbers::Coordinate;
-use refusals::Refusal;
+use refusals::{Reason, Refusal};
 
 mod boxes;
 mod lines;
@@ -37,8 +37,8 @@ fn intersection_of(
     ensures { result ≡ intersection_of a1 a2 b1 b2 }
 {
     match boxes::get_intersection_bounding_box(a1, a2, b1, b2) {
-        boxes::Boxes::Apart => LineIntersection::None,
-        boxes::Boxes::Share(bb) => {
+        None => LineIntersection::None,
+        Some(bb) => {
             boxes::or_lost(boxes::constrained(lines::intersection_impl(a1, a2, b1, b2), bb))
         }
     }
@@ -62,12 +62,6 @@ pub fn intersection(
     intersection_of(first.from, first.to, second.from, second.to)
 }
 
-#[derive(Clone, Copy)]
-pub enum Crossed {
-    Refused(Refusal),
-    Found(LineIntersection),
-}
-
 // The crossing of (ax, ay)-(bx, by) with (cx, cy)-(dx, dy); refused where one of the eight is not finite.
 pub fn crossing(
     mode: u32,
@@ -79,18 +73,18 @@ pub fn crossing(
     cy: f64,
     dx: f64,
     dy: f64,
-) -> Crossed
+) -> Result<LineIntersection, Refusal>
     ensures { result ≡ crossing_in mode ax ay bx by cx cy dx dy }
 {
     let given = [ax, ay, bx, by, cx, cy, dx, dy];
     let first = numbers::first_not_finite(&given);
     if first < 8 {
-        return Crossed::Refused(Refusal {
-            number: refusals::COORDINATE,
+        return Err(Refusal {
+            reason: Reason::Coordinate,
             place: first as u64,
         });
     }
-    Crossed::Found(intersection(
+    Ok(intersection(
         mode,
         Coordinate { x: ax, y: ay },
         Coordinate { x: bx, y: by },

@@ -1,10 +1,11 @@
 // Division: the segment of records 0 and 1 is cut, in a pool of eight places where a case does not say otherwise.
-use crate::bits::*;
-use crate::pools::{At, BELOW, LEFT, NOWHERE, PARTNER, Segment, USED, X, Y};
+use crate::pools::{Segment, USED};
 use crate::{pools, told};
 use numbers::Point;
 use records::dividing::divide_segment;
 use std::io;
+use test_pools::bits::*;
+use test_pools::changes::{At, BELOW, LEFT, NOWHERE, PARTNER, X, Y, change};
 
 // The places of both arrays.
 #[derive(Clone, Copy)]
@@ -55,12 +56,11 @@ fn case(
     let mut points = pools::points();
     let mut marks = pools::marks();
     pools::place(&mut points, 0, 1, s);
-    pools::change(&mut points, &mut marks, c);
+    change(&mut points, &mut marks, c);
     let kept_points = points;
     let kept_marks = marks;
     let at = Point { x: cut.0, y: cut.1 };
-    told::say(rt, label)?;
-    told::say(rt, ": ")?;
+    print!(rt; "{label}: ")?;
     lend(rt, &mut points, &mut marks, places, used, i, at)?;
     told::changes(rt, &points, &marks, &kept_points, &kept_marks)
 }

@@ -1,7 +1,6 @@
 // The entries that divide, run on every reason of refusal and on 01's P10 and P11: what they tell, and each record that is not as lent, whole.
 #![tactic(auto)]
 
-mod bits;
 mod cuts;
 mod meetings;
 mod pools;

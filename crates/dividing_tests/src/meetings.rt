@@ -1,10 +1,11 @@
 // Neighbours: a is record 0 and b record 2, their segments in a pool of ten places where a case does not say otherwise.
-use crate::bits::*;
-use crate::pools::{At, BELOW, IN_OUT, LEFT, NOWHERE, PARTNER, SUBJECT, Segment, USED, X, Y};
+use crate::pools::{Segment, USED};
 use crate::{pools, told};
 use crossing::{ORDERED, PLAIN};
 use records::dividing::possible_intersection;
 use std::io;
+use test_pools::bits::*;
+use test_pools::changes::{At, BELOW, IN_OUT, LEFT, NOWHERE, PARTNER, SUBJECT, X, Y, change};
 
 // The places of both arrays, and how many are in use.
 #[derive(Clone, Copy)]
@@ -64,11 +65,10 @@ fn case(
     let mut marks = pools::marks();
     pools::place(&mut points, 0, 1, a);
     pools::place(&mut points, 2, 3, b);
-    pools::change(&mut points, &mut marks, c);
+    change(&mut points, &mut marks, c);
     let kept_points = points;
     let kept_marks = marks;
-    told::say(rt, label)?;
-    told::say(rt, ": ")?;
+    print!(rt; "{label}: ")?;
     lend(rt, &mut points, &mut marks, places, pair)?;
     told::changes(rt, &points, &marks, &kept_points, &kept_marks)
 }
@@ -95,8 +95,7 @@ fn unchecked(rt: &impl Print, label: &str, a: u32, b: u32, mode: u32) -> io::Res
     pools::place(&mut points, 2, 3, Segment(ZERO, MINUS_ONE, ZERO, ONE));
     let kept_points = points;
     let kept_marks = marks;
-    told::say(rt, label)?;
-    told::say(rt, ": ")?;
+    print!(rt; "{label}: ")?;
     told::neighbours(
         rt,
         neighbours::possible_intersection(&mut points, &mut marks, USED, a, b, mode),

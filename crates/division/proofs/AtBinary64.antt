@@ -1,5 +1,6 @@
 -- Binary64 and the lent pool satisfy what the laws of division ask: a word that equals x by value has x's next_up, which compares greater than x and,
 -- where refusal 2 passes it, is read from its word again.
+use Rattle.std.proofs.Common.{Ok}
 use mathlib.Core.Path.{◌≡◌, refl}
 use mathlib.Core.Bool.{true, false, true≢false}
 use Prim.Native.Nat.{ℕ}
@@ -19,7 +20,6 @@ use Rattle.events.specs.Store.{look}
 use Rattle.events.specs.Pool.{Pool, stored}
 use Rattle.events.proofs.Stored.{pool-stored}
 use Rattle.order.proofs.AtBinary64.{laws}
-use Rattle.division.specs.declared.Division.TheVariants.{Done}
 use Rattle.division.specs.declared.Divided.{Divided}
 use Rattle.division.specs.Division.{moves, moved, divide}
 use Rattle.division.proofs.Sides.{MoveLaws, and_left}
@@ -62,7 +62,7 @@ unfolding laws
 move-laws = record { order = laws; further = further }
 
 -- the code's division, told whole
-pub whole-pool : (s : Pool) (used i : ℕ) (p : Point) (d : Divided) → (divide at_binary64 stored s used i p).answer ≡ Done d → Segment (look stored s used) used i
+pub whole-pool : (s : Pool) (used i : ℕ) (p : Point) (d : Divided) → (divide at_binary64 stored s used i p).answer ≡ Ok d → Segment (look stored s used) used i
     → Whole at_binary64 (look stored s used) (look stored (divide at_binary64 stored s used i p).store (divide at_binary64 stored s used i p).used) used i
     (moved at_binary64 (look stored s used i).point p) (moves at_binary64 (look stored s used i).point p) d
 whole-pool s used i p = whole move-laws pool-stored s used i p

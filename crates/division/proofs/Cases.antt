@@ -1,4 +1,5 @@
 -- The four ways through a division, over any coordinates and any store: which test decides, and what is then the outcome.
+use Rattle.refusals.specs.declared.Reason.TheVariants as Reason
 use mathlib.Core.Path.{◌≡◌}
 use mathlib.Core.Bool.{Bool, true, false, not}
 use Prim.Native.Nat.{ℕ, ◌+◌, min, ◌<◌}
@@ -15,15 +16,15 @@ module _ {P S : Type 0} (C : Coordinates P) (K : Store P S) (s : S) (used i : �
   opened e f c he hf hc = rw (hc, hf, he)
 
 module _ {P S : Type 0} (C : Coordinates P) (K : Store P S) (s : S) (used i : ℕ) (e f : Event P) (c : P) (move : Bool) where
-  pub by_side : not e.left ≡ true → refused s used 7 i ≡ divide_at C K s used i e f c move
+  pub by_side : not e.left ≡ true → refused s used Reason.Cut i ≡ divide_at C K s used i e f c move
   unfolding divide_at
   by_side a = rw a
 
-  pub by-cut : not e.left ≡ false → misses C e.point f.point c ≡ true → refused s used 7 i ≡ divide_at C K s used i e f c move
+  pub by-cut : not e.left ≡ false → misses C e.point f.point c ≡ true → refused s used Reason.Cut i ≡ divide_at C K s used i e f c move
   unfolding divide_at
   by-cut a b = rw (a, b)
 
-  pub by-room : not e.left ≡ false → misses C e.point f.point c ≡ false → full K s used ≡ true → refused s used 6 i ≡ divide_at C K s used i e f c move
+  pub by-room : not e.left ≡ false → misses C e.point f.point c ≡ false → full K s used ≡ true → refused s used Reason.Full i ≡ divide_at C K s used i e f c move
   unfolding divide_at
   by-room a b d = rw (a, b, d)
 

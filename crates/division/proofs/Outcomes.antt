@@ -1,5 +1,7 @@
 -- What an answer tells: a refused division leaves all as it was, one that is done passed every test, and no store changes the size. Each is read off the
 -- definition's tests one by one.
+use Rattle.refusals.specs.declared.Reason.TheVariants as Reason
+use Rattle.std.proofs.Common.{Err, Ok, Result}
 use mathlib.Core.Path.{◌≡◌, refl, ap}
 use mathlib.Core.Bool.{Bool, true, false, not, ◌||◌, cond}
 use Prim.Native.Nat.{ℕ, ◌+◌, ◌<◌, min}
@@ -9,8 +11,6 @@ use Rattle.events.specs.Coordinates.{Coordinates}
 use Rattle.events.specs.Event.{Event}
 use Rattle.events.specs.Store.{Store, look}
 use Rattle.events.proofs.Stored.{Stored}
-use Rattle.division.specs.declared.Division.{Division}
-use Rattle.division.specs.declared.Division.TheVariants.{Done, Refused}
 use Rattle.division.specs.declared.Divided.{Divided}
 use Rattle.division.specs.Division.{moves, moved, misses, numbers, full, keeps, After, refused, done, divide_at, divide}
 use Rattle.division.proofs.Cases.{room}
@@ -21,7 +21,7 @@ pub record AsLent {S : Type 0} (s : S) (n : ℕ) (after : After S) : Type 0 wher
   pub store : after.store ≡ s
   pub used : after.used ≡ n
 
-not-both : (a : Division) (d : Divided) (r : Refusal) → a ≡ Done d → a ≡ Refused r → ⊥
+not-both : (a : Result Divided Refusal) (d : Divided) (r : Refusal) → a ≡ Ok d → a ≡ Err r → ⊥
 not-both a d r p q = let z : ◌≡◌ {A = ℕ} 0 1 = cc in omega arith
 
 module _ {P S : Type 0} (C : Coordinates P) (K : Store P S) (s : S) (used i : ℕ) (p : P) where
@@ -35,13 +35,13 @@ module _ {P S : Type 0} (C : Coordinates P) (K : Store P S) (s : S) (used i : �
   c = moved C e.point p
 
   abbrev outcome : Bool → Bool → After S
-  outcome out short = cond out (refused s used 7 i) (cond short (refused s used 6 i) (done C K s used i e f c (moves C e.point p)))
+  outcome out short = cond out (refused s used Reason.Cut i) (cond short (refused s used Reason.Full i) (done C K s used i e f c (moves C e.point p)))
 
-  pub as_lent_lem : (r : Refusal) → (divide C K s used i p).answer ≡ Refused r → AsLent s used (divide C K s used i p)
+  pub as_lent_lem : (r : Refusal) → (divide C K s used i p).answer ≡ Err r → AsLent s used (divide C K s used i p)
   unfolding divide divide_at refused done
   as_lent_lem r h = go (not e.left || misses C e.point f.point c) (full K s used) h
     where
-      go : (out short : Bool) → (outcome out short).answer ≡ Refused r → AsLent s used (outcome out short)
+      go : (out short : Bool) → (outcome out short).answer ≡ Err r → AsLent s used (outcome out short)
       go true short h = record { store = refl; used = refl }
       go false true h = record { store = refl; used = refl }
       go false false h = absurd (not-both _ _ r refl h)
@@ -62,16 +62,16 @@ module _ {P S : Type 0} (C : Coordinates P) (K : Store P S) (s : S) (used i : �
     pub free : used + 1 < min (K.size s) numbers
     pub is : divide C K s used i p ≡ done C K s used i e f c (moves C e.point p)
 
-  pub passed : (d : Divided) → (divide C K s used i p).answer ≡ Done d → Passed
+  pub passed : (d : Divided) → (divide C K s used i p).answer ≡ Ok d → Passed
   unfolding divide divide_at refused
   passed d h = go e.left refl (misses C e.point f.point c) refl (full K s used) refl h
     where
-      go : (l : Bool) → e.left ≡ l → (m : Bool) → misses C e.point f.point c ≡ m → (t : Bool) → full K s used ≡ t → (outcome (not l || m) t).answer ≡ Done d → Passed
+      go : (l : Bool) → e.left ≡ l → (m : Bool) → misses C e.point f.point c ≡ m → (t : Bool) → full K s used ≡ t → (outcome (not l || m) t).answer ≡ Ok d → Passed
       go false a m b t g h = absurd (not-both _ d _ h refl)
       go true a true b t g h = absurd (not-both _ d _ h refl)
       go true a false b true g h = absurd (not-both _ d _ h refl)
       go true a false b false g h = record { left = a; hits = b; free = room K s used g; is = rw (a, b, g) }
 
-  pub used-after : (d : Divided) → (divide C K s used i p).answer ≡ Done d → (divide C K s used i p).used ≡ used + 2
+  pub used-after : (d : Divided) → (divide C K s used i p).answer ≡ Ok d → (divide C K s used i p).used ≡ used + 2
   unfolding done
   used-after d h = ap (λ a. a.used) (passed d h).is

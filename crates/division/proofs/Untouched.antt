@@ -1,4 +1,5 @@
 -- A division writes two new records, and stores over its two ends records that differ from them in partner and flag alone.
+use Rattle.std.proofs.Common.{Ok}
 use mathlib.Core.Path.{◌≡◌, refl, sym, ap, ◌∙◌, subst}
 use mathlib.Core.Logic.{◌≢◌}
 use mathlib.Core.Bool.{Bool, true, false, not, cond, true≢false}
@@ -14,7 +15,6 @@ use Rattle.events.specs.Lent.{among, AsLentBut}
 use Rattle.events.proofs.Stored.{pool-stored}
 use Rattle.events.proofs.Looks.{look_in}
 use Rattle.events.proofs.Lent.{twelve, Agree, left, subject, ring, there, below, edge_type, transition, in_out, other_in_out, numbered, contour, lent-here, lent-away, lent-away-enter, lent-then, then-lent}
-use Rattle.division.specs.declared.Division.TheVariants.{Done}
 use Rattle.division.specs.declared.Divided.{Divided}
 use Rattle.division.specs.Division.{moved, keeps, new_end, linked, parted, After, done, divide}
 use Rattle.division.specs.Untouched.{Untouched}
@@ -80,7 +80,7 @@ module _ (s : Pool) (used i : ℕ) (p : Point) where
   abbrev row : ℕ → Event Point
   row r = look stored s used r
 
-  pub untouched : (d : Divided) → (divide at_binary64 stored s used i p).answer ≡ Done d → Segment row used i
+  pub untouched : (d : Divided) → (divide at_binary64 stored s used i p).answer ≡ Ok d → Segment row used i
       → Untouched s (divide at_binary64 stored s used i p).store used i (row i).partner d.swapped
   unfolding done
   untouched d h w =

@@ -1,5 +1,6 @@
 -- A division that is done, told whole: the answer gives both new numbers and says what was done, four records are new or changed and all others as
 -- before, partners are mutual again, and the four ends lie on their proper sides. Each part is a law of its own; here they meet at one division.
+use Rattle.std.proofs.Common.{Ok}
 use mathlib.Core.Path.{◌≡◌, refl, sym, ap, ◌∙◌, subst}
 use mathlib.Core.Logic.{◌≢◌}
 use mathlib.Core.Bool.{Bool, false, not, not-not, true≢false}
@@ -9,7 +10,6 @@ use Rattle.events.specs.Coordinates.{Coordinates}
 use Rattle.events.specs.Event.{Event}
 use Rattle.events.specs.Store.{Store, look}
 use Rattle.events.proofs.Stored.{Stored}
-use Rattle.division.specs.declared.Division.TheVariants.{Done}
 use Rattle.division.specs.declared.Divided.{Divided}
 use Rattle.division.specs.Division.{moves, moved, keeps, After, parted, done, divide}
 use Rattle.division.specs.Records.{Parted, Paired}
@@ -53,9 +53,9 @@ module _ {P S : Type 0} {C : Coordinates P} {K : Store P S} (M : MoveLaws C) (L 
   abbrev tells : Divided
   tells = record { right = used; left = used + 1; moved = moves C (row i).point p; swapped = not keep }
 
-  pub told : (d : Divided) → after.answer ≡ Done d → Passed C K s used i p → tells ≡ d
+  pub told : (d : Divided) → after.answer ≡ Ok d → Passed C K s used i p → tells ≡ d
   unfolding done
-  told d h g = let same : Done tells ≡ Done d = sym (ap (λ a. a.answer) g.is) ∙ h in cc
+  told d h g = let same : Ok tells ≡ Ok d = sym (ap (λ a. a.answer) g.is) ∙ h in cc
 
   parts : Passed C K s used i p → Segment row used i → Whole C row (look K (parted K s used i (row i) (row o) c keep) (used + 2)) used i c (moves C (row i).point p) tells
   parts g w =
@@ -74,7 +74,7 @@ module _ {P S : Type 0} {C : Coordinates P} {K : Store P S} (M : MoveLaws C) (L 
         on_sides = sides C all g.left w.right (cut-after M (row i).point (row o).point p g.hits) (cut-aside M (row i) (row o) c g.hits);
       }
 
-  pub whole : (d : Divided) → after.answer ≡ Done d → Segment row used i → Whole C row (look K after.store after.used) used i c (moves C (row i).point p) d
+  pub whole : (d : Divided) → after.answer ≡ Ok d → Segment row used i → Whole C row (look K after.store after.used) used i c (moves C (row i).point p) d
   unfolding done
   whole d h w =
       let g = passed C K s used i p d h in

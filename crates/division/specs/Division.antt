@@ -4,13 +4,15 @@
 --
 -- The new right end takes the next free number, the new left end the one after. Two corners: a cut straight below the left end is moved one step in x,
 -- so that the first half does not run downwards; and where the cut comes after the old right end, the second half runs from that end to the cut.
-use Rattle.std.specs.Prelude.{Bool, true, false, not, ◌&&◌, ◌||◌, cond, ℕ, ◌+◌, min, leb}
+use Rattle.division.specs.declared.Divided.{Divided}
+use Rattle.refusals.specs.declared.Reason.{Reason}
+use Rattle.refusals.specs.declared.Reason.TheVariants as Reason
+use Rattle.std.specs.Prelude.{Bool, true, false, not, ◌&&◌, ◌||◌, cond, ℕ, ◌+◌, min, leb, Err, Ok, Result}
+use Rattle.refusals.specs.declared.Refusal.{Refusal}
 use Rattle.events.specs.Coordinates.{Coordinates, same}
 use Rattle.events.specs.Event.{Event, fresh, key}
 use Rattle.events.specs.Store.{Store, look}
 use Rattle.order.specs.Order.{before}
-use Rattle.division.specs.declared.Division.{Division}
-use Rattle.division.specs.declared.Division.TheVariants.{Done, Refused}
 
 -- ---- the cut
 
@@ -64,7 +66,7 @@ numbers = 0xffff_ffff
 pub record After (S : Type 0) : Type 0 where
   pub store : S
   pub used : ℕ
-  pub answer : Division
+  pub answer : Result Divided Refusal
 
 module _ {P S : Type 0} (K : Store P S) where
   -- fewer than two places are free, or fewer than two numbers
@@ -80,12 +82,12 @@ module _ {P S : Type 0} (K : Store P S) where
       K.store own e.partner (linked f (used + 1) (cond keep f.left true))
 
 -- told of the record to be divided
-abbrev pub refusal : ℕ → ℕ → Division
-refusal number i = Refused (record { number = number; place = i })
+abbrev pub refusal : Reason → ℕ → Result Divided Refusal
+refusal reason i = Err (record { reason = reason; place = i })
 
 -- everything as it was
-unfoldable pub refused : {S : Type 0} → S → ℕ → ℕ → ℕ → After S
-refused s used number i = record { store = s; used = used; answer = refusal number i }
+unfoldable pub refused : {S : Type 0} → S → ℕ → Reason → ℕ → After S
+refused s used reason i = record { store = s; used = used; answer = refusal reason i }
 
 module _ {P S : Type 0} (C : Coordinates P) (K : Store P S) where
   unfoldable pub done : S → ℕ → ℕ → Event P → Event P → P → Bool → After S
@@ -94,14 +96,14 @@ module _ {P S : Type 0} (C : Coordinates P) (K : Store P S) where
       record {
         store = parted K s used i e f c keep;
         used = used + 2;
-        answer = Done (record { right = used; left = used + 1; moved = move; swapped = not keep });
+        answer = Ok (record { right = used; left = used + 1; moved = move; swapped = not keep });
       }
 
   -- 7, then 6, then the division
   unfoldable pub divide_at : S → ℕ → ℕ → Event P → Event P → P → Bool → After S
   divide_at s used i e f c move =
-      cond (not e.left || misses C e.point f.point c) (refused s used 7 i)
-      (cond (full K s used) (refused s used 6 i) (done s used i e f c move))
+      cond (not e.left || misses C e.point f.point c) (refused s used Reason.Cut i)
+      (cond (full K s used) (refused s used Reason.Full i) (done s used i e f c move))
 
   -- the segment of record i, where the first `used` places are in use, at the cut p
   unfoldable pub divide : S → ℕ → ℕ → P → After S

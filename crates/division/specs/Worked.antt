@@ -1,10 +1,9 @@
 -- 01, 'Checked by hand (P: to be proved)': P10 and P11, on a pool of four places of which the segment holds two.
-use Rattle.std.specs.Prelude.{◌≡◌, Bool, true, false, List, [], ◌∷◌, ℕ}
+use Rattle.std.specs.Prelude.{◌≡◌, Bool, true, false, List, [], ◌∷◌, ℕ, Ok}
 use Rattle.numbers.specs.declared.Point.{Point}
 use Rattle.events.specs.Binary64.{at_binary64}
 use Rattle.events.specs.Store.{look}
 use Rattle.events.specs.Pool.{Pool, pool, stored}
-use Rattle.division.specs.declared.Division.TheVariants.{Done}
 use Rattle.division.specs.Division.{After, divide}
 
 -- ---- the patterns of the numbers
@@ -53,7 +52,7 @@ flags_of after = flag 0 ∷ flag 1 ∷ flag 2 ∷ flag 3 ∷ []
 
 -- a division done with both new ends at a point, and the flags of the four records after it
 pub record Cut (after : After Pool) (moved swapped : Bool) (p : Point) (flags : List Bool) : Type 0 where
-  pub answer_is : after.answer ≡ Done (record { right = 2; left = 3; moved = moved; swapped = swapped })
+  pub answer_is : after.answer ≡ Ok (record { right = 2; left = 3; moved = moved; swapped = swapped })
   pub right_at : (look stored after.store after.used 2).point ≡ p
   pub left_at : (look stored after.store after.used 3).point ≡ p
   pub flags_are : flags_of after ≡ flags

@@ -17,7 +17,7 @@ use crate::ends::{flag_after, keeps, new_end, relinked};
 use events::Event;
 use events::pool::{enter_event, read_used, store_event};
 use numbers::Point;
-use refusals::{CUT, FULL, Refusal};
+use refusals::{Reason, Refusal};
 
 // Record numbers, and how many are in use, are 32 bits.
 const NUMBERS: usize = 0xffff_ffff;
@@ -34,18 +34,12 @@ pub struct Divided {
     pub swapped: bool,
 }
 
-#[derive(Clone, Copy)]
-pub enum Division {
-    Done(Divided),
-    Refused(Refusal),
-}
-
 // Told of the record to be divided.
-fn refused(number: u64, i: u32) -> Division
-    ensures { result ≡ refusal number i }
+fn refused(reason: Reason, i: u32) -> Result<Divided, Refusal>
+    ensures { result ≡ refusal reason i }
 {
-    Division::Refused(Refusal {
-        number: number,
+    Err(Refusal {
+        reason,
         place: i as u64,
     })
 }
@@ -96,7 +90,7 @@ pub fn divide_segment(
     used: u32,
     i: u32,
     cut: Point,
-) -> Division
+) -> Result<Divided, Refusal>
     ensures value { result ≡ (divide at_binary64 stored (pool points.old marks.old) used i cut).answer }
     ensures marks_after { pool points.new marks.new ≡ (divide at_binary64 stored (pool points.old marks.old) used i cut).store }
 {
@@ -104,18 +98,18 @@ pub fn divide_segment(
     let f = read_used(points, marks, used, e.partner);
     let c = moved(e.point, cut);
     if !e.left {
-        return refused(CUT, i);
+        return refused(Reason::Cut, i);
     }
     if misses(e.point, f.point, c) {
-        return refused(CUT, i);
+        return refused(Reason::Cut, i);
     }
     if is_full(points, marks, used) {
-        return refused(FULL, i);
+        return refused(Reason::Full, i);
     }
     let keep = keeps(e, f, c);
     part(points, marks, used, i, e, f, c, keep);
     let left = used + 1;
-    Division::Done(Divided {
+    Ok(Divided {
         right: used,
         left: left,
         moved: moves(e.point, cut),

@@ -13,9 +13,10 @@ ghost use Rattle.crossing.specs.Answer.{number_of, values_of};
 ghost use Rattle.entries.specs.ToldTurn as ToldTurn;
 ghost use Rattle.entries.specs.ToldCrossing as ToldCrossing;
 
-use crossing::{Crossed, LineIntersection};
+use crossing::LineIntersection;
 use numbers::words::word;
-use orientation::{Oriented, Sign};
+use orientation::Sign;
+use refusals::Refusal;
 
 // The sign's number put into what the caller lends.
 fn tell_turn(turn: Sign, sign: &mut i64)
@@ -49,11 +50,11 @@ pub fn bezorika_orientation(
     ensures place_after { place.new ≡ ToldTurn.place (Orientation.orientation_of ax ay bx by cx cy) place.old }
 {
     match orientation::orientation(ax, ay, bx, by, cx, cy) {
-        Oriented::Refused(why) => {
+        Err(why) => {
             *place = why.place;
-            why.number
+            u64::from(why.reason)
         }
-        Oriented::Turn(turn) => {
+        Ok(turn) => {
             tell_turn(turn, sign);
             0
         }
@@ -88,18 +89,23 @@ fn tell_crossing(found: LineIntersection, kind: &mut u64, corners: &mut [u64; 4]
 }
 
 // What a crossing tells put into what the caller lends.
-fn tell_crossed(crossed: Crossed, kind: &mut u64, corners: &mut [u64; 4], place: &mut u64) -> u64
+fn tell_crossed(
+    crossed: Result<LineIntersection, Refusal>,
+    kind: &mut u64,
+    corners: &mut [u64; 4],
+    place: &mut u64,
+) -> u64
     ensures value { result ≡ ToldCrossing.refusal crossed }
     ensures kind_after { kind.new ≡ ToldCrossing.kind crossed kind.old }
     ensures corners_after { corners.new ≡ ToldCrossing.corners crossed corners.old }
     ensures place_after { place.new ≡ ToldCrossing.place crossed place.old }
 {
     match crossed {
-        Crossed::Refused(why) => {
+        Err(why) => {
             *place = why.place;
-            why.number
+            u64::from(why.reason)
         }
-        Crossed::Found(found) => {
+        Ok(found) => {
             tell_crossing(found, kind, corners);
             0
         }

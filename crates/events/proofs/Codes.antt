@@ -1,11 +1,9 @@
 -- Every flag, link, edge type and transition is read back from its numbers.
-use Rattle.std.proofs.Common.{◌≡◌, ℕ, Bool, true, false, List, [], ◌∷◌, refl}
+use Rattle.std.proofs.Common.{◌≡◌, ℕ, Bool, true, false, List, [], ◌∷◌, refl, None, Option, Some}
 use Rattle.events.specs.declared.EdgeType.{EdgeType}
 use Rattle.events.specs.declared.EdgeType.TheVariants.{Normal, NonContributing, SameTransition, DifferentTransition}
 use Rattle.events.specs.declared.ResultTransition.{ResultTransition}
 use Rattle.events.specs.declared.ResultTransition.TheVariants.{None as NoTransition, InOut, OutIn}
-use Rattle.events.specs.declared.Link.{Link}
-use Rattle.events.specs.declared.Link.TheVariants.{None, To}
 use Rattle.events.specs.Pool.{flag_of, flag_number, link_of, there_number, link_number, edge_type_of, edge_type_number, transition_of, transition_number}
 
 pub flag : (b : Bool) → flag_of (flag_number b) ≡ b
@@ -13,10 +11,10 @@ unfolding flag_number
 flag true = refl
 flag false = refl
 
-pub link : (l : Link) → link_of (there_number l) (link_number l) ≡ l
+pub link : (l : Option ℕ) → link_of (there_number l) (link_number l) ≡ l
 unfolding link_of there_number link_number
 link None = refl
-link (To n) = refl
+link (Some n) = refl
 
 pub edge_type : (t : EdgeType) → edge_type_of (edge_type_number t) ≡ t
 unfolding edge_type_of edge_type_number

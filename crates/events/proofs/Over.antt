@@ -1,8 +1,7 @@
 -- A mark written over a lent one says what it should; one that said so already is as lent.
-use Rattle.std.proofs.Common.{◌≡◌, ℕ, Bool, true, false, cond, eqb, sym, refl, ap, ◌∙◌, eq-eqb, eqb-true}
+use Rattle.std.proofs.Common.{◌≡◌, ℕ, Bool, true, false, cond, eqb, sym, refl, ap, ◌∙◌, eq-eqb, eqb-true, None, Option, Some}
 use mathlib.Core.Bool.{false≢true}
-use Rattle.events.specs.declared.Link.{Link}
-use Rattle.events.specs.declared.Link.TheVariants.{None, To}
+use Rattle.std.specs.Option.{option_eq}
 use Rattle.events.specs.Pool.{link_of, there_number, link_number, same_link, over, there_over, link_over}
 use Rattle.events.proofs.Codes.{link}
 
@@ -23,19 +22,27 @@ module _ {A : Type 0} (says : ℕ → A) (number : A → ℕ) where
 
 -- ---- the two marks of a link
 
-pub same-link : (a b : Link) → same_link a b ≡ true → a ≡ b
+-- what `==` tells of two links
+pub same_link-eq : (a b : Option ℕ) → same_link a b ≡ option_eq eqb a b
+unfolding same_link
+same_link-eq None None = refl
+same_link-eq None (Some b) = refl
+same_link-eq (Some a) None = refl
+same_link-eq (Some a) (Some b) = refl
+
+pub same-link : (a b : Option ℕ) → same_link a b ≡ true → a ≡ b
 unfolding same_link
 same-link None None e = refl
-same-link None (To b) e = absurd (false≢true e)
-same-link (To a) None e = absurd (false≢true e)
-same-link (To a) (To b) e = ap To (eqb-true a b e)
+same-link None (Some b) e = absurd (false≢true e)
+same-link (Some a) None e = absurd (false≢true e)
+same-link (Some a) (Some b) e = ap Some (eqb-true a b e)
 
-link-same : (l : Link) → same_link l l ≡ true
+link-same : (l : Option ℕ) → same_link l l ≡ true
 unfolding same_link
 link-same None = refl
-link-same (To n) = eq-eqb n n refl
+link-same (Some n) = eq-eqb n n refl
 
-module _ (there n : ℕ) (l : Link) where
+module _ (there n : ℕ) (l : Option ℕ) where
   pub link-says : link_of (there_over there n l) (link_over there n l) ≡ l
   unfolding there_over link_over
   link-says = go (same_link (link_of there n) l) refl

@@ -1,12 +1,10 @@
 -- What an event record is, over any kind of point. Record numbers are counted from 0.
-use Rattle.std.specs.Prelude.{ℕ, Bool, true, false}
+use Rattle.std.specs.Prelude.{ℕ, Bool, true, false, None, Option}
 use Rattle.numbers.specs.declared.Point.{Point}
 use Rattle.events.specs.declared.EdgeType.{EdgeType}
 use Rattle.events.specs.declared.EdgeType.TheVariants.{Normal}
 use Rattle.events.specs.declared.ResultTransition.{ResultTransition}
-use Rattle.events.specs.declared.ResultTransition.TheVariants.{None, InOut, OutIn}
-use Rattle.events.specs.declared.Link.{Link}
-use Rattle.events.specs.declared.Link.TheVariants.{None as NoLink}
+use Rattle.events.specs.declared.ResultTransition.TheVariants.{None as NoTransition, InOut, OutIn}
 use Rattle.events.specs.declared.Event as D
 
 -- one end of an edge
@@ -16,12 +14,12 @@ pub record Event (P : Type 0) : Type 0 where
   pub subject : Bool
   pub ring : ℕ
   pub partner : ℕ
-  pub below : Link
+  pub below : Option ℕ
   pub edge_type : EdgeType
   pub transition : ResultTransition
   pub in_out : Bool
   pub other_in_out : Bool
-  pub contour : Link
+  pub contour : Option ℕ
 
 -- an end that nothing is known of yet
 abbrev pub fresh : {P : Type 0} → P → (left subject : Bool) → (ring partner : ℕ) → Event P
@@ -32,17 +30,17 @@ fresh p left subject ring partner =
       subject = subject;
       ring = ring;
       partner = partner;
-      below = NoLink;
+      below = None;
       edge_type = Normal;
-      transition = None;
+      transition = NoTransition;
       in_out = false;
       other_in_out = false;
-      contour = NoLink;
+      contour = None;
     }
 
 -- a left end with this transition is in the result
 unfoldable pub has_transition : ResultTransition → Bool
-has_transition None = false
+has_transition NoTransition = false
 has_transition InOut = true
 has_transition OutIn = true
 

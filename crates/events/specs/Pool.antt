@@ -1,13 +1,11 @@
 -- The pool: the two lent arrays, whole. It fixes every number of them; an event is read from it and stored in it by number.
 -- A flag is 1 for true and any other number for false; edge types and transitions are numbered as they are declared, the last one standing for all beyond.
-use Rattle.std.specs.Prelude.{ℕ, min, Bool, true, false, cond, List, [], ◌∷◌, length, ◌==◌, nat_lt, slice_index, slice_index_or, slice_set}
+use Rattle.std.specs.Prelude.{ℕ, min, Bool, true, false, cond, List, [], ◌∷◌, length, ◌==◌, nat_lt, slice_index, slice_index_or, slice_set, None, Option, Some}
 use Rattle.numbers.specs.declared.Point.{Point}
 use Rattle.events.specs.declared.EdgeType.{EdgeType}
 use Rattle.events.specs.declared.EdgeType.TheVariants.{Normal, NonContributing, SameTransition, DifferentTransition}
 use Rattle.events.specs.declared.ResultTransition.{ResultTransition}
 use Rattle.events.specs.declared.ResultTransition.TheVariants.{None as NoTransition, InOut, OutIn}
-use Rattle.events.specs.declared.Link.{Link}
-use Rattle.events.specs.declared.Link.TheVariants.{None, To}
 use Rattle.events.specs.Event.{Event, fresh}
 use Rattle.events.specs.Store.{Store}
 
@@ -30,16 +28,16 @@ unfoldable pub flag_number : Bool → ℕ
 flag_number b = cond b 1 0
 
 -- a link takes two numbers: 1 and where it leads, or 0 and 0
-unfoldable pub link_of : ℕ → ℕ → Link
-link_of there n = cond (there == 1) (To n) None
+unfoldable pub link_of : ℕ → ℕ → Option ℕ
+link_of there n = cond (there == 1) (Some n) None
 
-unfoldable pub there_number : Link → ℕ
+unfoldable pub there_number : Option ℕ → ℕ
 there_number None = 0
-there_number (To n) = 1
+there_number (Some n) = 1
 
-unfoldable pub link_number : Link → ℕ
+unfoldable pub link_number : Option ℕ → ℕ
 link_number None = 0
-link_number (To n) = n
+link_number (Some n) = n
 
 unfoldable pub edge_type_of : ℕ → EdgeType
 edge_type_of n = cond (n == 0) Normal (cond (n == 1) NonContributing (cond (n == 2) SameTransition DifferentTransition))
@@ -58,11 +56,11 @@ transition_number NoTransition = 0
 transition_number InOut = 1
 transition_number OutIn = 2
 
-unfoldable pub same_link : Link → Link → Bool
+unfoldable pub same_link : Option ℕ → Option ℕ → Bool
 same_link None None = true
-same_link None (To b) = false
-same_link (To a) None = false
-same_link (To a) (To b) = a == b
+same_link None (Some b) = false
+same_link (Some a) None = false
+same_link (Some a) (Some b) = a == b
 
 -- ---- a record in its two rows
 
@@ -107,10 +105,10 @@ unfoldable pub over : {A : Type 0} → (ℕ → A) → (A → ℕ) → ℕ → A
 over says number m a = cond (number (says m) == number a) m (number a)
 
 -- the two of a link stay or change together
-unfoldable pub there_over : ℕ → ℕ → Link → ℕ
+unfoldable pub there_over : ℕ → ℕ → Option ℕ → ℕ
 there_over there n l = cond (same_link (link_of there n) l) there (there_number l)
 
-unfoldable pub link_over : ℕ → ℕ → Link → ℕ
+unfoldable pub link_over : ℕ → ℕ → Option ℕ → ℕ
 link_over there n l = cond (same_link (link_of there n) l) n (link_number l)
 
 unfoldable pub marks_over : List ℕ → Event Point → List ℕ

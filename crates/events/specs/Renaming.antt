@@ -1,12 +1,10 @@
 -- Another numbering of records: record r is called ρ r. What a record holds that is no record number stays; a contour's number is none.
-use Rattle.std.specs.Prelude.{ℕ}
-use Rattle.events.specs.declared.Link.{Link}
-use Rattle.events.specs.declared.Link.TheVariants.{None, To}
+use Rattle.std.specs.Prelude.{ℕ, None, Option, Some}
 use Rattle.events.specs.Event.{Event}
 
-unfoldable pub rename_link : (ℕ → ℕ) → Link → Link
+unfoldable pub rename_link : (ℕ → ℕ) → Option ℕ → Option ℕ
 rename_link ρ None = None
-rename_link ρ (To b) = To (ρ b)
+rename_link ρ (Some b) = Some (ρ b)
 
 -- links renamed
 unfoldable pub rename : {P : Type 0} → (ℕ → ℕ) → Event P → Event P

@@ -9,7 +9,7 @@ pub mod pool;
 
 use numbers::Point;
 
-#[derive(Clone, Copy)]
+#[derive(Clone, Copy, Debug, PartialEq, Eq)]
 pub enum EdgeType {
     Normal,
     NonContributing,
@@ -17,18 +17,11 @@ pub enum EdgeType {
     DifferentTransition,
 }
 
-#[derive(Clone, Copy)]
+#[derive(Clone, Copy, Debug, PartialEq, Eq)]
 pub enum ResultTransition {
     None,
     InOut,
     OutIn,
-}
-
-// The number of a record or of a contour, where there is one.
-#[derive(Clone, Copy)]
-pub enum Link {
-    None,
-    To(u32),
 }
 
 // One end of an edge. Fields of one size stand together, so that an end is copied in whole words.
@@ -39,9 +32,9 @@ pub struct Event {
     // The number of the other end's record.
     pub partner: u32,
     // The next edge below that is in the result (`prev_in_result`).
-    pub below: Link,
+    pub below: Option<u32>,
     // The contour that the edge is walked in (`output_contour_id`).
-    pub contour: Link,
+    pub contour: Option<u32>,
     pub left: bool,
     pub subject: bool,
     pub in_out: bool,
@@ -60,11 +53,11 @@ pub fn fresh_event(point: Point, left: bool, subject: bool, ring: u32, partner: 
         subject: subject,
         ring: ring,
         partner: partner,
-        below: Link::None,
+        below: None,
         edge_type: EdgeType::Normal,
         transition: ResultTransition::None,
         in_out: false,
         other_in_out: false,
-        contour: Link::None,
+        contour: None,
     }
 }

@@ -2,10 +2,10 @@
 // Outside the pool a read gives a blank record, its own partner, and nothing is written: every number has an answer.
 ghost use Rattle.std.specs.Prelude.{◌≡◌, [], if◌then◌else◌, nat_eq, slice_index_or, slice_set};
 ghost use Rattle.events.specs.Event.{shown};
-ghost use Rattle.events.specs.Pool.{pool, row_at, enter, store, event_of, point_of, marks_of, over, there_over, link_over, marks_over, flag_of, flag_number, same_link, link_of, there_number, link_number, edge_type_of, edge_type_number, transition_of, transition_number, blank, stored};
+ghost use Rattle.events.specs.Pool.{pool, row_at, enter, store, event_of, point_of, marks_of, over, there_over, link_over, marks_over, flag_of, flag_number, link_of, there_number, link_number, edge_type_of, edge_type_number, transition_of, transition_number, blank, stored};
 ghost use Rattle.events.specs.Store.{look};
 
-use crate::{EdgeType, Event, Link, ResultTransition, fresh_event};
+use crate::{EdgeType, Event, ResultTransition, fresh_event};
 use numbers::Point;
 
 // A flag as a number.
@@ -15,45 +15,30 @@ pub fn number_of_flag(b: bool) -> u32
     if b { 1 } else { 0 }
 }
 
-fn link_of(there: u32, n: u32) -> Link
+fn link_of(there: u32, n: u32) -> Option<u32>
     ensures { result ≡ link_of there n }
 {
     if there == 1 {
-        return Link::To(n);
+        return Some(n);
     }
-    Link::None
+    None
 }
 
-fn number_of_there(l: Link) -> u32
+fn number_of_there(l: Option<u32>) -> u32
     ensures { result ≡ there_number l }
 {
     match l {
-        Link::None => 0,
-        Link::To(_) => 1,
+        None => 0,
+        Some(_) => 1,
     }
 }
 
-fn number_of_link(l: Link) -> u32
+fn number_of_link(l: Option<u32>) -> u32
     ensures { result ≡ link_number l }
 {
     match l {
-        Link::None => 0,
-        Link::To(n) => n,
-    }
-}
-
-fn same_link(a: Link, b: Link) -> bool
-    ensures { result ≡ same_link a b }
-{
-    match a {
-        Link::None => match b {
-            Link::None => true,
-            Link::To(_) => false,
-        },
-        Link::To(m) => match b {
-            Link::None => false,
-            Link::To(n) => m == n,
-        },
+        None => 0,
+        Some(n) => n,
     }
 }
 
@@ -213,19 +198,19 @@ fn transition_over(m: u32, t: ResultTransition) -> u32
 }
 
 // The two marks of a link stay or change together.
-pub fn there_over(there: u32, n: u32, l: Link) -> u32
+pub fn there_over(there: u32, n: u32, l: Option<u32>) -> u32
     ensures { result ≡ there_over there n l }
 {
-    if same_link(link_of(there, n), l) {
+    if link_of(there, n) == l {
         return there;
     }
     number_of_there(l)
 }
 
-pub fn link_over(there: u32, n: u32, l: Link) -> u32
+pub fn link_over(there: u32, n: u32, l: Option<u32>) -> u32
     ensures { result ≡ link_over there n l }
 {
-    if same_link(link_of(there, n), l) {
+    if link_of(there, n) == l {
         return n;
     }
     number_of_link(l)

@@ -6,34 +6,15 @@ use Prim.Native.Nat.{ℕ, zero, suc, ◌+◌, ◌-◌, ◌≤◌, ◌<◌}
 use native.Mathlib.Numerals.{add-one}
 use native.Mathlib.Nat.{add-zero}
 use native.Mathlib.Omega.{arith}
-use borrow.Author.Tests.{eq-eqb, ne_eqb, le-leb, lt-leb}
-use lib.ListN.{length, get_or, set, length-append, get_or-eq_default}
+use lib.ListN.{length, get_or, set, length-append}
 use lib.Seq.{sets}
 use lib.Dec.{eqb}
-use Rattle.checks.specs.Checks.{max_events}
 use Rattle.checks.specs.Numbers.{numbers_from}
 use Rattle.contours.specs.Result.{keep}
-use Rattle.rows.proofs.Lists.{get_d_any, sets-append}
-use Rattle.holes.specs.Holes.{nest_in, Held, holding, holes_at, contour_row, contour_rows, all_holes, held_from, holed_on, hold_one, Pile, pile, piled, add_hole}
-
-pub nest-out : (ns : List (List ℕ)) (j : ℕ) → length ns ≤ j → 0 ∷ 0 ∷ 0 ∷ 0 ∷ [] ≡ nest_in ns j
-unfolding nest_in
-nest-out ns j h = sym (get_or-eq_default ns _ h)
-
-pub nest-in : (ns : List (List ℕ)) (j : ℕ) → j < length ns → get_or ns j [] ≡ nest_in ns j
-unfolding nest_in
-nest-in ns j h = get_d_any ns j [] _ h
+use Rattle.rows.proofs.Lists.{sets-append}
+use Rattle.holes.specs.Holes.{nest_in, Held, holding, holes_at, contour_row, contour_rows, all_holes, held_from, hold_one, Pile, pile, piled, add_hole}
 
 -- ---- the holes of one contour
-
-module _ (ns : List (List ℕ)) (c j : ℕ) (hs : List ℕ) (e : ℕ) (q : List ℕ) (f : q ≡ nest_in ns j) where
-  pub add-yes : get_or q 2 0 ≡ c + 1 → (hs' : List ℕ) → hs' ≡ set hs e j → pile hs' (e + 1) ≡ add_hole ns c hs e j
-  unfolding add_hole
-  add-yes h hs' s = rw (s, ← f, eq-eqb (get_or q 2 0) (c + 1) h)
-
-  pub add-no : (get_or q 2 0 ≡ c + 1 → ⊥) → pile hs e ≡ add_hole ns c hs e j
-  unfolding add_hole
-  add-no h = rw (← f, ne_eqb (get_or q 2 0) (c + 1) h)
 
 piles : {h h' : List ℕ} {e e' : ℕ} → h ≡ h' → e ≡ e' → pile h e ≡ pile h' e'
 piles a b = rw (a, b)
@@ -126,11 +107,3 @@ module _ (ns : List (List ℕ)) (n : ℕ) where
   pub hold-near : (c e e' : ℕ) (ks ks' : List (List ℕ)) (hs hs' : List ℕ) → holding ks' hs' e' ≡ hold_one ns n c ks hs e → e' ≤ e + n
   unfolding hold_one
   hold-near c e e' ks ks' hs hs' q = omega (arith, ap (λ (x : Held). x.end) q, holes-few ns c n 0)
-
-  pub held_none : (ks : List (List ℕ)) (hs : List ℕ) → max_events < n → holding ks hs 0 ≡ holed_on ns n ks hs
-  unfolding holed_on
-  held_none ks hs h = rw (lt-leb n max_events h)
-
-  pub held_all : (ks : List (List ℕ)) (hs : List ℕ) (w : Held) → n ≤ max_events → w ≡ held_from ns n n 0 ks hs 0 → w ≡ holed_on ns n ks hs
-  unfolding holed_on
-  held_all ks hs w h v = rw (le-leb n max_events h) v

@@ -7,6 +7,7 @@ ghost use Rattle.holes.specs.Holes.{nest_in, pile, add_hole, piled, holes_at, ho
 
 use checks::sizes::MAX_EVENTS;
 
+#[tactic(auto, unfolding(crate::specs::Holes::nest_in))]
 fn nest_at(nests: &[[u32; 4]], j: u32) -> [u32; 4]
     ensures { result ≡ nest_in nests.now j }
 {
@@ -36,6 +37,7 @@ fn put_contour(contours: &mut [[u32; 6]], c: u32, row: [u32; 6])
 }
 
 // Contour j is put at the end if c is its parent.
+#[tactic(auto, unfolding(crate::specs::Holes::add_hole))]
 fn add_hole(nests: &[[u32; 4]], holes: &mut [u32], c: u32, end: u32, j: u32) -> u32
     requires { (c < 4096) × (end ≤ 4096 * 4096) }
     ensures { pile holes.new result ≡ add_hole nests.now c holes.old end j }
@@ -55,10 +57,8 @@ fn holes_of(nests: &[[u32; 4]], holes: &mut [u32], count: u32, c: u32, first: u3
     ensures { pile holes.new result ≡ piled holes.old first (holes_at nests.now c count 0) }
 {
     let mut end = first;
-    let mut j = 0;
-    while j < count {
+    for j in 0..count {
         end = add_hole(nests, holes, c, end, j);
-        j += 1;
     }
     end
 }
@@ -90,15 +90,14 @@ fn hold_all(nests: &[[u32; 4]], contours: &mut [[u32; 6]], holes: &mut [u32], co
     ensures { holding contours.new holes.new result ≡ held_from nests.now count count 0 contours.old holes.old 0 }
 {
     let mut end = 0;
-    let mut c = 0;
-    while c < count {
+    for c in 0..count {
         end = hold(nests, contours, holes, count, c, end);
-        c += 1;
     }
     end
 }
 
 // The first count contours, whole; the number of holes. Where they are above the limit nothing is done.
+#[tactic(auto, unfolding(crate::specs::Holes::holed_on))]
 pub fn hold_contours(
     nests: &[[u32; 4]],
     contours: &mut [[u32; 6]],

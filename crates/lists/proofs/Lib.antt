@@ -1,4 +1,4 @@
--- The slice while its places are moved (`Laws`), how a search comes to a slot (`Slots`), the members after an insertion or a removal
+-- What a move of the members leaves in the slice (`Laws`), how a search comes to a slot (`Slots`), the members after an insertion or a removal
 -- (`Members`), and a list that is stored in front (`Fronts`).
 pub mod Laws
 pub mod Slots

@@ -1,12 +1,18 @@
 -- A search for a slot from the first member on: after i members, the slot is i further on than in what is left. The members are the first n places of a slice.
-use mathlib.Core.Path.{◌≡◌}
-use mathlib.Core.Bool.{Bool, true, false, cond}
-use mathlib.Core.List.{List, [], ◌∷◌}
+use mathlib.Core.Path.{◌≡◌, refl}
+use borrow.Author.Rules.{rules}
+use mathlib.Core.Bool.{Bool, not, true, false}
+use mathlib.Core.List.{List, ◌∷◌}
 use Prim.Native.Nat.{ℕ, suc, ◌+◌, ◌<◌, ◌≤◌}
 use native.Mathlib.Numerals.{add-one}
 use native.Mathlib.Omega.{arith}
 use lib.ListN.{length, take, drop, get_or, length-take}
 use lib.Seq.{drop-cons, drop-length, get_or-take}
+use Rattle.std.specs.Option.{unwrap_or}
+use Rattle.std.specs.List.{position, position_or_len}
+use Rattle.std.proofs.lemmas.List.Recursion.{is_position_or_len}
+use Rattle.std.proofs.lemmas.List.Sums.{prefix_len-le-length}
+use Rattle.std.proofs.lemmas.Bool.Decides.{nat_tests}
 use Rattle.lists.specs.Lists.{slot}
 
 -- a place of a member is below n
@@ -44,12 +50,16 @@ module _ (test : ℕ → Bool) (s : List ℕ) (n : ℕ) where
       let nothing : slot test (drop i (take n s)) ≡ 0 = rw (e, drop-length (take n s)) in
       omega arith
 
--- a slot is a place of a member, or the one behind the last
-pub slot-within : (test : ℕ → Bool) (l : List ℕ) → slot test l ≤ length l
+-- a slot is what the library's search tells: the place of the first that passes, or how many there are
+slot_is : (test : ℕ → Bool) (l : List ℕ) → slot test l ≡ position_or_len test l
 unfolding slot
-slot-within test [] = omega arith
-slot-within test (x ∷ l) = by (test x) (slot-within test l)
-  where
-    by : (t : Bool) → slot test l ≤ length l → cond t 0 (suc (slot test l)) ≤ suc (length l)
-    by true h = omega arith
-    by false h = omega arith
+slot_is test l = is_position_or_len (slot test) test refl (λ x xs. search rules) l
+
+-- it is a place of a member, or the one behind the last
+pub slot-within : (test : ℕ → Bool) (l : List ℕ) → slot test l ≤ length l
+slot-within test l = rw (slot_is test l) (prefix_len-le-length (λ x. not (test x)) l)
+
+pub position_is_slot : (test : ℕ → Bool) (l : List ℕ) → unwrap_or (position test l) (length l) ≡ slot test l
+position_is_slot test l =
+    let within = slot-within test l in
+    rw (← slot_is test l) (grind (arith, nat_tests))

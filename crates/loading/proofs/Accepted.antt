@@ -1,4 +1,6 @@
 -- What passing the checks of loading gives: sizes within their limits, two places for each edge, and each edge fit.
+use Rattle.std.proofs.Common.{Err, Ok}
+use Rattle.refusals.specs.Refusals.{Verdict}
 use mathlib.Core.Path.{◌≡◌, refl}
 use mathlib.Core.Bool.{Bool, true, false, not, cond}
 use mathlib.Core.List.{List}
@@ -10,20 +12,17 @@ use lib.ListN.{length}
 use Rattle.refusals.specs.declared.Refusal.{Refusal}
 use Rattle.events.specs.Binary64.{at_binary64}
 use Rattle.events.specs.Pool.{Pool, stored}
-use Rattle.checks.specs.declared.Check.{Check}
-use Rattle.checks.specs.declared.Check.TheVariants.{Passed, Refused}
 use Rattle.checks.specs.Checks.{missized}
 use Rattle.checks.specs.Sound.{Sized}
 use Rattle.checks.proofs.Told.{not-both, both-passed}
 use Rattle.checks.proofs.Unstruck.{neither}
 use Rattle.checks.proofs.Passed.{well-sized}
-use Rattle.loading.specs.declared.Loaded.TheVariants as Loaded
 use Rattle.loading.specs.Loading.{loaded, checked_edges}
 use Rattle.loading.specs.OnPool.{max_edges, edges_of, edges_sized, pool_sized, accept, after, after_checks, load}
 use Rattle.loading.proofs.Edges.{length-edges}
 
 -- a test that would refuse has not struck, and the rest passed
-pub unstruck : (t : Bool) (x : Refusal) (rest : Check) → cond t (Refused x) rest ≡ Passed → (t ≡ false) × (rest ≡ Passed)
+pub unstruck : (t : Bool) (x : Refusal) (rest : Verdict) → cond t (Err x) rest ≡ Ok tt → (t ≡ false) × (rest ≡ Ok tt)
 unstruck true x rest e = absurd (not-both _ _ e refl)
 unstruck false x rest e = (refl, e)
 
@@ -32,9 +31,9 @@ pub record Accepted (ends : List (List ℕ)) (labels : List (List ℕ)) (p : Poo
   pub few : length ends ≤ max_edges
   pub sizes : Sized (length p.points) (length p.marks)
   pub room : 2 * length ends ≤ length p.points
-  pub each : checked_edges at_binary64 0 (edges_of ends labels) ≡ Passed
+  pub each : checked_edges at_binary64 0 (edges_of ends labels) ≡ Ok tt
 
-pub accepted : (ends : List (List ℕ)) (labels : List (List ℕ)) (p : Pool) → accept ends labels p ≡ Passed → Accepted ends labels p
+pub accepted : (ends : List (List ℕ)) (labels : List (List ℕ)) (p : Pool) → accept ends labels p ≡ Ok tt → Accepted ends labels p
 unfolding accept edges_sized pool_sized
 accepted ends labels p e =
     let n = length ends in
@@ -60,16 +59,16 @@ as_many ends labels p a =
 
 -- ---- the answer
 
-module _ (ends : List (List ℕ)) (labels : List (List ℕ)) (p : Pool) {t : Check} (told : t ≡ accept ends labels p) where
-  pub few-edges : t ≡ Passed → length (edges_of ends labels) ≤ max_edges
+module _ (ends : List (List ℕ)) (labels : List (List ℕ)) (p : Pool) {t : Verdict} (told : t ≡ accept ends labels p) where
+  pub few-edges : t ≡ Ok tt → length (edges_of ends labels) ≤ max_edges
   few-edges e =
       let a = accepted ends labels p (rw (← told) e) in
       omega (arith, as_many ends labels p a, a.few)
 
-  pub answer-refused : (x : Refusal) → t ≡ Refused x → after (Loaded.Refused x) p ≡ load ends labels p
+  pub answer-refused : (x : Refusal) → t ≡ Err x → after (Err x) p ≡ load ends labels p
   unfolding load after_checks
   answer-refused x e = rw (← told, e)
 
-  pub answer-done : t ≡ Passed → {used : ℕ} {q : Pool} → used ≡ 2 * length (edges_of ends labels) → q ≡ loaded at_binary64 stored p 0 (edges_of ends labels) → after (Loaded.Done used) q ≡ load ends labels p
+  pub answer-done : t ≡ Ok tt → {used : ℕ} {q : Pool} → used ≡ 2 * length (edges_of ends labels) → q ≡ loaded at_binary64 stored p 0 (edges_of ends labels) → after (Ok used) q ≡ load ends labels p
   unfolding load after_checks
   answer-done e u q = rw (← told, e, u, q)

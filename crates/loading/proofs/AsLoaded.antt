@@ -1,4 +1,6 @@
 -- A pool as loaded passes the checks of the sweep: each of its records is sound.
+use Rattle.std.proofs.Common.{Err, None, Ok, Some}
+use Rattle.refusals.specs.Refusals.{Verdict}
 use mathlib.Core.Path.{◌≡◌, refl, sym, ap}
 use mathlib.Core.Logic.{◌⊎◌, inl, inr, ⊎_elim}
 use mathlib.Core.Bool.{Bool, true, false, not, cond, ◌||◌, not-not}
@@ -8,7 +10,6 @@ use native.Mathlib.Omega.{arith}
 use borrow.Author.Tests.{eqb-true, eqb-false, not-false}
 use lib.Dec.{eqb}
 use lib.ListN.{length}
-use Rattle.events.specs.declared.Link.TheVariants.{None, To}
 use Rattle.events.specs.Coordinates.{Coordinates, same, ahead}
 use Rattle.events.specs.Event.{Event}
 use Rattle.events.specs.Binary64.{at_binary64}
@@ -16,8 +17,6 @@ use Rattle.events.specs.Pool.{Pool, size, row_at, stored, there_number}
 use Rattle.events.proofs.Stored.{pool-stored}
 use Rattle.order.proofs.Laws.{ahead_apart}
 use Rattle.order.proofs.AtBinary64.{laws}
-use Rattle.checks.specs.declared.Check.{Check}
-use Rattle.checks.specs.declared.Check.TheVariants.{Passed, Refused}
 use Rattle.checks.specs.Checks.{in_order, checked}
 use Rattle.checks.specs.Numbers.{numbers_from}
 use Rattle.checks.specs.Sound.{Sound}
@@ -25,13 +24,12 @@ use Rattle.checks.proofs.Told.{both-passed}
 use Rattle.checks.proofs.Unstruck.{neither}
 use Rattle.checks.proofs.Passed.{passed-checked}
 use Rattle.checks.proofs.Lowest.{length-numbers, number_at}
-use Rattle.loading.specs.declared.Loaded.{Loaded}
 use Rattle.loading.specs.Loading.{Edge, end, first_end, second_end, loaded, checked_edge, checked_edges}
 use Rattle.loading.specs.OnPool.{edges_of, accept, after_checks, load}
 use Rattle.loading.proofs.Rows.{Rows, none, more, rows}
 use Rattle.loading.proofs.Accepted.{unstruck, accepted, as_many}
 
-not-linked : (b : ℕ) → None ≡ To b → ⊥
+not-linked : (b : ℕ) → None ≡ Some b → ⊥
 unfolding there_number
 not-linked b e =
     let z : ◌≡◌ {A = ℕ} 0 1 = ap there_number e in
@@ -55,7 +53,7 @@ pub record Fit {P : Type 0} (C : Coordinates P) (e : Edge P) : Type 0 where
   pub to : C.fit e.to ≡ true
   pub apart : same C e.from e.to ≡ false
 
-fit : {P : Type 0} (C : Coordinates P) (i : ℕ) (e : Edge P) → checked_edge C i e ≡ Passed → Fit C e
+fit : {P : Type 0} (C : Coordinates P) (i : ℕ) (e : Edge P) → checked_edge C i e ≡ Ok tt → Fit C e
 unfolding checked_edge
 fit C i e p =
     let two = unstruck (not (C.fit e.from) || not (C.fit e.to)) _ _ p in
@@ -93,7 +91,7 @@ module _ {P : Type 0} (C : Coordinates P) (row : ℕ → Event P) (n : ℕ) wher
     turned true u v h = h
     turned false u v h = h
 
-    pub sounds : {i : ℕ} {l : List (Edge P)} → Rows C row i l → checked_edges C i l ≡ Passed → 2 * (i + length l) ≤ n → (r : ℕ) → 2 * i ≤ r → r < 2 * (i + length l) → Sound C row n r
+    pub sounds : {i : ℕ} {l : List (Edge P)} → Rows C row i l → checked_edges C i l ≡ Ok tt → 2 * (i + length l) ≤ n → (r : ℕ) → 2 * i ≤ r → r < 2 * (i + length l) → Sound C row n r
     unfolding checked_edges first_end second_end
     sounds (none i) p m r h k = absurd (omega arith)
     sounds (more i e l u v rest) p m r h k =
@@ -110,7 +108,7 @@ module _ {P : Type 0} (C : Coordinates P) (row : ℕ → Event P) (n : ℕ) wher
 -- ---- the lent pool
 
 module _ (ends : List (List ℕ)) (labels : List (List ℕ)) (p : Pool) where
-  edges-sound : accept ends labels p ≡ Passed → let n = 2 * length (edges_of ends labels) in checked at_binary64 (row_at (loaded at_binary64 stored p 0 (edges_of ends labels))) n (numbers_from 0 n) ≡ Passed
+  edges-sound : accept ends labels p ≡ Ok tt → let n = 2 * length (edges_of ends labels) in checked at_binary64 (row_at (loaded at_binary64 stored p 0 (edges_of ends labels))) n (numbers_from 0 n) ≡ Ok tt
   unfolding stored size
   edges-sound e =
       let l = edges_of ends labels in
@@ -124,14 +122,14 @@ module _ (ends : List (List ℕ)) (labels : List (List ℕ)) (p : Pool) where
       rw (number_at 0 n k r) (sounds at_binary64 _ n (ahead_apart laws) held a.each (omega arith) (0 + k) (omega arith) (omega arith)))
 
   -- loading answered with the places in use: their records pass refusals 2 and 4
-  pub as-loaded : (n : ℕ) → (load ends labels p).answer ≡ Loaded.Done n → checked at_binary64 (row_at (load ends labels p).pool) n (numbers_from 0 n) ≡ Passed
+  pub as-loaded : (n : ℕ) → (load ends labels p).answer ≡ Ok n → checked at_binary64 (row_at (load ends labels p).pool) n (numbers_from 0 n) ≡ Ok tt
   unfolding load after_checks
   as-loaded n = by (accept ends labels p) refl
     where
-      by : (t : Check) → accept ends labels p ≡ t → (after_checks t (edges_of ends labels) p).answer ≡ Loaded.Done n → checked at_binary64 (row_at (after_checks t (edges_of ends labels) p).pool) n (numbers_from 0 n) ≡ Passed
-      by Passed t d =
+      by : (t : Verdict) → accept ends labels p ≡ t → (after_checks t (edges_of ends labels) p).answer ≡ Ok n → checked at_binary64 (row_at (after_checks t (edges_of ends labels) p).pool) n (numbers_from 0 n) ≡ Ok tt
+      by (Ok _) t d =
           let q : 2 * length (edges_of ends labels) ≡ n = cc in
           rw (← q) (edges-sound t)
-      by (Refused x) t d =
+      by (Err x) t d =
           let z : ◌≡◌ {A = ℕ} 0 1 = cc in
           absurd (omega arith)

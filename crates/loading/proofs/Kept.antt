@@ -1,4 +1,6 @@
 -- Loading keeps the lengths of the pool's arrays.
+use Rattle.std.proofs.Common.{Err, Ok}
+use Rattle.refusals.specs.Refusals.{Verdict}
 use mathlib.Core.Path.{◌≡◌, refl, ◌∙◌}
 use mathlib.Core.List.{List, [], ◌∷◌}
 use Prim.Native.Nat.{ℕ, suc}
@@ -9,8 +11,6 @@ use Rattle.events.specs.Event.{Event}
 use Rattle.events.specs.Store.{Store}
 use Rattle.events.specs.Binary64.{at_binary64}
 use Rattle.events.specs.Pool.{Pool, point_of, marks_of, enter, stored}
-use Rattle.checks.specs.declared.Check.{Check}
-use Rattle.checks.specs.declared.Check.TheVariants.{Passed, Refused}
 use Rattle.loading.specs.Loading.{Edge, loaded_edge, loaded}
 use Rattle.loading.specs.OnPool.{edges_of, accept, after_checks, load}
 
@@ -36,14 +36,14 @@ module _ (ends : List (List ℕ)) (labels : List (List ℕ)) (p : Pool) where
   unfolding load after_checks
   points_kept = go (accept ends labels p)
     where
-      go : (x : Check) → length (after_checks x (edges_of ends labels) p).pool.points ≡ length p.points
-      go Passed = points-loaded p 0 (edges_of ends labels)
-      go (Refused r) = refl
+      go : (x : Verdict) → length (after_checks x (edges_of ends labels) p).pool.points ≡ length p.points
+      go (Ok _) = points-loaded p 0 (edges_of ends labels)
+      go (Err r) = refl
 
   pub marks-kept : length (load ends labels p).pool.marks ≡ length p.marks
   unfolding load after_checks
   marks-kept = go (accept ends labels p)
     where
-      go : (x : Check) → length (after_checks x (edges_of ends labels) p).pool.marks ≡ length p.marks
-      go Passed = marks-loaded p 0 (edges_of ends labels)
-      go (Refused r) = refl
+      go : (x : Verdict) → length (after_checks x (edges_of ends labels) p).pool.marks ≡ length p.marks
+      go (Ok _) = marks-loaded p 0 (edges_of ends labels)
+      go (Err r) = refl

@@ -1,4 +1,6 @@
 -- One turn of each loop over the edges, and its end: what is left to do gives the whole.
+use Rattle.std.proofs.Common.{Err, Ok}
+use Rattle.refusals.specs.Refusals.{Verdict}
 use mathlib.Core.Path.{◌≡◌}
 use mathlib.Core.Bool.{Bool, not}
 use mathlib.Core.List.{List, ◌∷◌}
@@ -13,8 +15,6 @@ use Rattle.events.specs.Binary64.{at_binary64}
 use Rattle.events.specs.Event.{Event}
 use Rattle.events.specs.Store.{Store}
 use Rattle.events.specs.Pool.{Pool, enter, stored}
-use Rattle.checks.specs.declared.Check.{Check}
-use Rattle.checks.specs.declared.Check.TheVariants.{Passed, Refused}
 use Rattle.checks.specs.Checks.{and_then}
 use Rattle.loading.specs.Loading.{Edge, end, first_end, second_end, loaded_edge, loaded, checked_edge, checked_edges}
 
@@ -22,20 +22,20 @@ module _ {P : Type 0} (C : Coordinates P) (l : List (Edge P)) where
   -- ---- the checks
 
   -- the edge read is the one at i
-  pub told_at : (i : ℕ) {e at : Edge P} {t u : Check} → t ≡ checked_edge C i e → e ≡ at → t ≡ u → checked_edge C i at ≡ u
+  pub told_at : (i : ℕ) {e at : Edge P} {t u : Verdict} → t ≡ checked_edge C i e → e ≡ at → t ≡ u → checked_edge C i at ≡ u
   told_at i t e u = rw (← e, ← t, u)
 
-  module _ (whole : Check) (i : ℕ) (left : checked_edges C i (drop i l) ≡ whole) where
+  module _ (whole : Verdict) (i : ℕ) (left : checked_edges C i (drop i l) ≡ whole) where
     module _ (e : Edge P) (next : drop i l ≡ e ∷ drop (suc i) l) where
-      pub check-passed : checked_edge C i e ≡ Passed → checked_edges C (i + 1) (drop (i + 1) l) ≡ whole
+      pub check-passed : checked_edge C i e ≡ Ok tt → checked_edges C (i + 1) (drop (i + 1) l) ≡ whole
       unfolding checked_edges and_then
       check-passed t = rw (add-one, ← left, next, t)
 
-      pub check-refused : (x : Refusal) → checked_edge C i e ≡ Refused x → Refused x ≡ whole
+      pub check-refused : (x : Refusal) → checked_edge C i e ≡ Err x → Err x ≡ whole
       unfolding checked_edges and_then
       check-refused x t = rw (← left, next, t)
 
-    pub check-ended : i ≡ length l → Passed ≡ whole
+    pub check-ended : i ≡ length l → Ok tt ≡ whole
     unfolding checked_edges
     check-ended e = rw (← left, e, drop-length l)
 

@@ -1,10 +1,10 @@
 -- Loading (01: edge i becomes events 2i, its first end, and 2i+1; the end earlier by x, then y, is left), over any kind of coordinate and any store.
-use Rattle.std.specs.Prelude.{Bool, not, cond, ◌||◌, List, [], ◌∷◌, ℕ, suc, ◌+◌, ◌*◌}
+use Rattle.std.specs.Prelude.{Bool, not, cond, ◌||◌, List, [], ◌∷◌, ℕ, suc, ◌+◌, ◌*◌, Err, Ok}
+use Rattle.refusals.specs.declared.Reason.TheVariants as Reason
+use Rattle.refusals.specs.Refusals.{Verdict}
 use Rattle.events.specs.Coordinates.{Coordinates, same, ahead}
 use Rattle.events.specs.Event.{Event, fresh}
 use Rattle.events.specs.Store.{Store}
-use Rattle.checks.specs.declared.Check.{Check}
-use Rattle.checks.specs.declared.Check.TheVariants.{Passed, Refused}
 use Rattle.checks.specs.Checks.{and_then}
 
 pub record Edge (P : Type 0) : Type 0 where
@@ -39,11 +39,11 @@ module _ {P : Type 0} where
 
     -- ---- the checks of each edge in turn: 2, an end that is not fit; 3, equal ends
 
-    unfoldable pub checked_edge : ℕ → Edge P → Check
+    unfoldable pub checked_edge : ℕ → Edge P → Verdict
     checked_edge i e =
-        cond (not (C.fit e.from) || not (C.fit e.to)) (Refused (record { number = 2; place = i }))
-        (cond (same C e.from e.to) (Refused (record { number = 3; place = i })) Passed)
+        cond (not (C.fit e.from) || not (C.fit e.to)) (Err (record { reason = Reason.Coordinate; place = i }))
+        (cond (same C e.from e.to) (Err (record { reason = Reason.Ends; place = i })) (Ok tt))
 
-    unfoldable pub checked_edges : ℕ → List (Edge P) → Check
-    checked_edges i [] = Passed
+    unfoldable pub checked_edges : ℕ → List (Edge P) → Verdict
+    checked_edges i [] = Ok tt
     checked_edges i (e ∷ l) = and_then (checked_edge i e) (checked_edges (suc i) l)

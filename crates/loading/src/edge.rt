@@ -13,6 +13,7 @@ pub struct Edge {
     pub to: Point,
 }
 
+#[tactic(auto, unfolding(crate::specs::OnPool::edge_of, crate::specs::OnPool::end_of))]
 fn edge_of(e: [u64; 4], l: [u32; 2]) -> Edge
     ensures { shown_edge result ≡ edge_of e l }
 {
@@ -21,8 +22,8 @@ fn edge_of(e: [u64; 4], l: [u32; 2]) -> Edge
     Edge {
         subject: l[1] == 1,
         ring: l[0],
-        from: from,
-        to: to,
+        from,
+        to,
     }
 }
 
@@ -30,12 +31,10 @@ fn edge_of(e: [u64; 4], l: [u32; 2]) -> Edge
 pub fn edge_count(ends: &[[u64; 4]], labels: &[[u32; 2]]) -> usize
     ensures { result ≡ length (edges_of ends.now labels.now) }
 {
-    if ends.len() < labels.len() {
-        return ends.len();
-    }
-    labels.len()
+    ends.len().min(labels.len())
 }
 
+#[tactic(auto, unfolding(crate::specs::OnPool::edge_at))]
 pub fn read_edge(ends: &[[u64; 4]], labels: &[[u32; 2]], i: usize) -> Edge
     requires { (i < length ends.now) × (i < length labels.now) }
     ensures { shown_edge result ≡ edge_at ends.now labels.now i }

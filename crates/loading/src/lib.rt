@@ -7,7 +7,6 @@ ghost use Rattle.loading.specs.OnPool as OnPool;
 ghost use Rattle.loading.specs.OnPool.{after};
 
 use check::accept;
-use checks::Check;
 use refusals::Refusal;
 use store::load_edges;
 
@@ -15,27 +14,16 @@ mod check;
 mod edge;
 mod store;
 
-#[derive(Clone, Copy)]
-pub enum Loaded {
-    // The places in use.
-    Done(u32),
-    Refused(Refusal),
-}
-
 // Loads the edges, x y x y each, with their labels: the ring, and 1 for the subject. The places beyond the two of each edge stay as lent.
 pub fn load(
     ends: &[[u64; 4]],
     labels: &[[u32; 2]],
     points: &mut [[u64; 2]],
     marks: &mut [[u32; 12]],
-) -> Loaded
+) -> Result<u32, Refusal>
     ensures { after result (pool points.new marks.new) ≡ OnPool.load ends.now labels.now (pool points.old marks.old) }
 {
-    match accept(ends, labels, points, marks) {
-        Check::Refused(refusal) => Loaded::Refused(refusal),
-        Check::Passed => {
-            let used = load_edges(ends, labels, points, marks);
-            Loaded::Done(used)
-        }
-    }
+    accept(ends, labels, points, marks)?;
+    let used = load_edges(ends, labels, points, marks);
+    Ok(used)
 }

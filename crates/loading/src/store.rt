@@ -14,6 +14,7 @@ use events::{Event, fresh_event};
 use numbers::Point;
 
 // An end of the edge.
+#[tactic(auto, unfolding(crate::specs::Loading::end))]
 fn end(e: Edge, p: Point, left: bool, partner: u32) -> Event
     ensures { shown result ≡ Loading.end (shown_edge e) p left partner }
 {
@@ -44,10 +45,8 @@ pub fn load_edges(
     ensures { (result ≡ 2 * length (edges_of ends.now labels.now)) × (pool points.new marks.new ≡ loaded at_binary64 stored (pool points.old marks.old) 0 (edges_of ends.now labels.now)) }
 {
     let n = edge_count(ends, labels);
-    let mut i = 0;
-    while i < n {
+    for i in 0..n {
         load_edge(points, marks, i as u32, read_edge(ends, labels, i));
-        i += 1;
     }
     2 * (n as u32)
 }

@@ -1,5 +1,6 @@
 -- What is alike in two runs, together with an invariant of the first: where each is kept, both are.
 use Prim.Native.Nat.{ℕ}
+use Rattle.refusals.specs.declared.Reason.TheVariants as Reason
 use Rattle.events.specs.Coordinates.{Coordinates, Cross, Crossing}
 use Rattle.events.specs.Store.{Store}
 use Rattle.neighbours.specs.Step.{Step}
@@ -65,7 +66,7 @@ module _ {P S P' S' : Type 0} (B : Likeness P S P' S') (I : Invariant P S) where
   steps-both (halted l w t) (out o) = absurd o
   steps-both (out o) z = out o
 
-  crosses_both : {a a' : ℕ} {x : Cross P} {x' : Cross P'} → CrossesAlike B a a' x x' → Crossed I.OfPoint (I.OfRefusal (record { number = 7; place = a })) x → CrossesAlike (both B I) a a' x x'
+  crosses_both : {a a' : ℕ} {x : Cross P} {x' : Cross P'} → CrossesAlike B a a' x x' → Crossed I.OfPoint (I.OfRefusal (record { reason = Reason.Cut; place = a })) x → CrossesAlike (both B I) a a' x x'
   unfolding both
   crosses_both apart h = apart
   crosses_both (astray t) h = astray (t, h)

@@ -1,4 +1,6 @@
 -- A meeting by its code: which step ended it, and that each step before went on.
+use Rattle.std.proofs.Common.{Err, Ok, Result}
+use Rattle.refusals.specs.Refusals.{Verdict}
 use mathlib.Core.Path.{◌≡◌, refl, ap}
 use mathlib.Core.Logic.{◌≢◌, ◌⊎◌, inl, inr}
 use mathlib.Core.Bool.{Bool, true, false, cond}
@@ -7,45 +9,41 @@ use native.Mathlib.Omega.{arith}
 use Rattle.refusals.specs.declared.Refusal.{Refusal}
 use Rattle.events.specs.Coordinates.{Coordinates, Cross, none, lost, point, overlap}
 use Rattle.events.specs.Store.{Store}
-use Rattle.neighbours.specs.declared.Met.{Met}
-use Rattle.neighbours.specs.declared.Met.TheVariants.{Code, Refused}
-use Rattle.neighbours.specs.declared.step.Stop.{Stop}
-use Rattle.neighbours.specs.declared.step.Stop.TheVariants.{Going, Stopped}
 use Rattle.neighbours.specs.Step.{Step, step, go_on, and_then}
 use Rattle.neighbours.specs.Neighbours.{Meeting, met_by, ended, crossed, left_shared, ends_first, overlapped, one_layer, meet_by}
 
 -- ---- steps that went on
 
-pub stopped : (r : Refusal) (x : Stop) → x ≡ Stopped r → x ≡ Going → ⊥
+pub stopped : (r : Refusal) (x : Verdict) → x ≡ Err r → x ≡ Ok tt → ⊥
 stopped r x p q = let z : ◌≡◌ {A = ℕ} 0 1 = cc in omega arith
 
 -- a step after which nothing was refused went on from one after which nothing was
 pub record WentOn {S : Type 0} (x : Step S) (next : S → ℕ → Step S) : Type 0 where
-  pub first : x.stop ≡ Going
+  pub first : x.stop ≡ Ok tt
   pub then : and_then x next ≡ next x.store x.used
 
-pub went_on : {S : Type 0} (x : Step S) (next : S → ℕ → Step S) → (and_then x next).stop ≡ Going → WentOn x next
+pub went_on : {S : Type 0} (x : Step S) (next : S → ℕ → Step S) → (and_then x next).stop ≡ Ok tt → WentOn x next
 unfolding and_then go_on
 went_on x next h = go x.stop refl h
   where
-    go : (y : Stop) → x.stop ≡ y → (go_on y x next).stop ≡ Going → WentOn x next
-    go Going e h = record { first = e; then = rw e }
-    go (Stopped r) e h = absurd (stopped r _ e h)
+    go : (y : Verdict) → x.stop ≡ y → (go_on y x next).stop ≡ Ok tt → WentOn x next
+    go (Ok _) e h = record { first = e; then = rw e }
+    go (Err r) e h = absurd (stopped r _ e h)
 
 -- ---- the code
 
-number : Met → ℕ
-number (Code c) = c
-number (Refused r) = 0
+number : Result ℕ Refusal → ℕ
+number (Ok c) = c
+number (Err r) = 0
 
-refused : (r : Refusal) (c : ℕ) (x : Met) → x ≡ Refused r → x ≡ Code c → ⊥
+refused : (r : Refusal) (c : ℕ) (x : Result ℕ Refusal) → x ≡ Err r → x ≡ Ok c → ⊥
 refused r c x p q = let z : ◌≡◌ {A = ℕ} 0 1 = cc in omega arith
 
 -- a code is told where nothing was refused
-pub went : (x : Stop) (c d : ℕ) → met_by x c ≡ Code d → (x ≡ Going) × (c ≡ d)
+pub went : (x : Verdict) (c d : ℕ) → met_by x c ≡ Ok d → (x ≡ Ok tt) × (c ≡ d)
 unfolding met_by number
-went Going c d h = (refl, ap number h)
-went (Stopped r) c d h = absurd (refused r d _ refl h)
+went (Ok _) c d h = (refl, ap number h)
+went (Err r) c d h = absurd (refused r d _ refl h)
 
 -- ---- which step it was
 
@@ -71,7 +69,7 @@ module _ {P S : Type 0} (C : Coordinates P) (K : Store P S) (s : S) (used a b : 
   came (point p) false false = at-point p refl
   came (overlap p q) oneLeft oneRight = go (one_layer C K s used a b) oneLeft
     where
-      go : (one left : Bool) → Came (overlap p q) oneRight (cond one (ended (step s used Going) 0) (overlapped C K s used a b left oneRight))
+      go : (one left : Bool) → Came (overlap p q) oneRight (cond one (ended (step s used (Ok tt)) 0) (overlapped C K s used a b left oneRight))
       go true left = nothing _
       go false true = one_left _ _ (either (ends_first C K s used a b))
       go false false = another _ 3 (λ e. omega arith) (λ e. omega arith)

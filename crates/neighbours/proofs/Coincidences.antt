@@ -1,4 +1,5 @@
 -- Two coinciding edges of two layers: which of them counts, and that its type is what the truth table says of the pair. The cut that may follow keeps types.
+use Rattle.std.proofs.Common.{Ok}
 use mathlib.Core.Path.{◌≡◌, refl, sym, ap, ◌∙◌}
 use mathlib.Core.Logic.{◌≢◌, ◌⊎◌, inl, inr}
 use mathlib.Core.Bool.{Bool, true, false, not, cond, beq, true≢false, false≢true}
@@ -21,8 +22,6 @@ use Rattle.class.proofs.Truth.{same-in-result, different-in-result, non-contribu
 use Rattle.class.proofs.Coinciding.{together, together-back, oppositely, oppositely-back}
 use Rattle.division.specs.Division.{linked}
 use Rattle.division.specs.Records.{Parted}
-use Rattle.neighbours.specs.declared.Met.TheVariants.{Code}
-use Rattle.neighbours.specs.declared.step.Stop.TheVariants.{Going}
 use Rattle.neighbours.specs.Step.{cut_unless}
 use Rattle.neighbours.specs.Neighbours.{Meeting, ended, typed, type_by, right_of, coincided, left_shared, meet}
 use Rattle.neighbours.specs.Pairs.{LeftEnd, FirstTyped, TypeTells, FirstCounts}
@@ -105,7 +104,7 @@ types-kept row row' n i c keep h r l = go (eqb r i) refl (eqb r (row i).partner)
     go false x false z = ap (λ e. e.edge_type) (h.rest r (λ e. omega arith) (λ e. omega arith) (eqb-false r i x) (eqb-false r (row i).partner z))
 
 module _ {P S : Type 0} (C : Coordinates P) {K : Store P S} (L : Stored K) (s : S) (used k : ℕ) (p : P) (w : LeftEnd (look K s used) used k) where
-  types-kept-unless : (b : Bool) → (cut_unless C K b s used k p).stop ≡ Going → (r : ℕ) → r < used
+  types-kept-unless : (b : Bool) → (cut_unless C K b s used k p).stop ≡ Ok tt → (r : ℕ) → r < used
       → (look K (cut_unless C K b s used k p).store (cut_unless C K b s used k p).used r).edge_type ≡ (look K s used r).edge_type
   unfolding cut_unless
   types-kept-unless true h r l = refl
@@ -163,7 +162,7 @@ module _ {P S : Type 0} (C : Coordinates P) {K : Store P S} (L : Stored K) (s : 
 -- ---- the meeting
 
 module _ {P S : Type 0} (C : Coordinates P) {K : Store P S} (L : Stored K) (crossing : Crossing P) (s : S) (used a b : ℕ) (fits : used ≤ K.size s) (u : LeftEnd (look K s used) used a) (v : LeftEnd (look K s used) used b) (apart : a ≢ b) where
-  shared-typed : (oneRight : Bool) (h k : ℕ) → (k ≡ a) ⊎ (k ≡ b) → (left_shared C K s used a b oneRight h k).stop ≡ Going
+  shared-typed : (oneRight : Bool) (h k : ℕ) → (k ≡ a) ⊎ (k ≡ b) → (left_shared C K s used a b oneRight h k).stop ≡ Ok tt
       → FirstTyped (look K s used) (look K (left_shared C K s used a b oneRight h k).store (left_shared C K s used a b oneRight h k).used) a b
   unfolding left_shared
   shared-typed oneRight h k which on =
@@ -178,15 +177,15 @@ module _ {P S : Type 0} (C : Coordinates P) {K : Store P S} (L : Stored K) (cros
       left_end (inr e) = rw e (left-kept _ _ used b (faces C L s used a b fits) v)
 
   -- After code 2 the first is typed by the flags of both, and the second does not count ..
-  pub two_typed : (meet C K crossing s used a b).met ≡ Code 2 → FirstTyped (look K s used) (look K (meet C K crossing s used a b).store (meet C K crossing s used a b).used) a b
+  pub two_typed : (meet C K crossing s used a b).met ≡ Ok 2 → FirstTyped (look K s used) (look K (meet C K crossing s used a b).store (meet C K crossing s used a b).used) a b
   unfolding meet ended
   two_typed h = go _ (came C K s used a b _ _ _) h
     where
-      go : {found : Cross P} {oneRight : Bool} (m : Meeting S) → Came C K s used a b found oneRight m → m.met ≡ Code 2 → FirstTyped (look K s used) (look K m.store m.used) a b
+      go : {found : Cross P} {oneRight : Bool} (m : Meeting S) → Came C K s used a b found oneRight m → m.met ≡ Ok 2 → FirstTyped (look K s used) (look K m.store m.used) a b
       go m (at-point p is) h = absurd (let z = (went _ 1 2 h).1 in omega arith)
       go m (one_left i k which) h = shared-typed _ i k which (went _ 2 2 h).0
       go m (another x c not-1 not-2) h = absurd (not-2 (went _ c 2 h).1)
 
   -- .. so that the truth table is met by the first alone.
-  pub one-counts : (p : Place) → PairAbove p (look K s used a) (look K s used b) → (meet C K crossing s used a b).met ≡ Code 2 → FirstCounts p (look K (meet C K crossing s used a b).store (meet C K crossing s used a b).used) a b
+  pub one-counts : (p : Place) → PairAbove p (look K s used a) (look K s used b) → (meet C K crossing s used a b).met ≡ Ok 2 → FirstCounts p (look K (meet C K crossing s used a b).store (meet C K crossing s used a b).used) a b
   one-counts p pair h = typed-counts _ _ a b p pair (two_typed h)

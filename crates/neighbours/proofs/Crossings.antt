@@ -1,4 +1,7 @@
 -- Where two segments cross, each is cut by its own rule: a cut changes no record of the other segment, so that the second is cut as if it were alone.
+use Rattle.division.specs.declared.Divided.{Divided}
+use Rattle.std.proofs.Common.{Err, Ok, Result}
+use Rattle.refusals.specs.declared.Refusal.{Refusal}
 use mathlib.Core.Path.{◌≡◌, refl, sym, ap, ap₂, ◌∙◌}
 use mathlib.Core.Logic.{◌≢◌}
 use mathlib.Core.Bool.{Bool, true, false, cond, true≢false}
@@ -8,15 +11,11 @@ use Rattle.events.specs.Coordinates.{Coordinates, Cross, point, Crossing}
 use Rattle.events.specs.Event.{Event}
 use Rattle.events.specs.Store.{Store, look}
 use Rattle.events.proofs.Stored.{Stored}
-use Rattle.division.specs.declared.Division.{Division}
-use Rattle.division.specs.declared.Division.TheVariants.{Done, Refused as NotDivided}
 use Rattle.division.specs.Division.{moved, new_end, linked, keeps, done, divide}
 use Rattle.division.specs.Records.{Parted, Paired}
 use Rattle.division.proofs.Records.{every-record}
 use Rattle.division.proofs.Pairs.{left-paired, aside, still-paired}
 use Rattle.division.proofs.Outcomes.{passed}
-use Rattle.neighbours.specs.declared.Met.TheVariants.{Code}
-use Rattle.neighbours.specs.declared.step.Stop.TheVariants.{Going}
 use Rattle.neighbours.specs.Step.{Step, stop_of, cut, cut_unless}
 use Rattle.neighbours.specs.Neighbours.{Meeting, ended, at_end, crossed, meet}
 use Rattle.neighbours.specs.Pairs.{LeftEnd, ends_at, CutAt, EachCut}
@@ -35,13 +34,13 @@ module _ {P S : Type 0} (C : Coordinates P) {K : Store P S} (L : Stored K) (s : 
   abbrev row : ℕ → Event P
   row r = look K s used r
 
-  pub halved : LeftEnd row used i → (cut C K s used i p).stop ≡ Going → Halved K s used i (moved C (row i).point p) (cut C K s used i p)
+  pub halved : LeftEnd row used i → (cut C K s used i p).stop ≡ Ok tt → Halved K s used i (moved C (row i).point p) (cut C K s used i p)
   unfolding cut stop_of done
   halved w h = go (divide C K s used i p).answer refl h
     where
-      go : (a : Division) → (divide C K s used i p).answer ≡ a → stop_of a ≡ Going → Halved K s used i (moved C (row i).point p) (cut C K s used i p)
-      go (NotDivided r) e h = absurd (stopped r _ refl h)
-      go (Done d) e h =
+      go : (a : Result Divided Refusal) → (divide C K s used i p).answer ≡ a → stop_of a ≡ Ok tt → Halved K s used i (moved C (row i).point p) (cut C K s used i p)
+      go (Err r) e h = absurd (stopped r _ refl h)
+      go (Ok d) e h =
           let g = passed C K s used i p d e in
           let free = g.free in
           let apart : i ≢ (row i).partner = λ k. true≢false (sym w.left ∙ ap (λ r. (row r).left) k ∙ w.right) in
@@ -69,7 +68,7 @@ parted-alone row row' n n' r c keep more w h =
     }
 
 module _ {P S : Type 0} (C : Coordinates P) {K : Store P S} (L : Stored K) (s : S) (n r : ℕ) (p : P) where
-  alone : (whole : Bool) → LeftEnd (look K s n) n r → (cut_unless C K whole s n r p).stop ≡ Going
+  alone : (whole : Bool) → LeftEnd (look K s n) n r → (cut_unless C K whole s n r p).stop ≡ Ok tt
       → Alone (look K s n) (look K (cut_unless C K whole s n r p).store (cut_unless C K whole s n r p).used) n (cut_unless C K whole s n r p).used r whole (moved C (look K s n r).point p)
   unfolding cut_unless
   alone true w h = record { end = refl; half = λ z. absurd (true≢false z); others = λ q x y z. (refl, refl); pairs = λ q x. x }
@@ -134,7 +133,7 @@ module _ {P : Type 0} (C : Coordinates P) (row one : ℕ → Event P) (n m a b :
 -- ---- the meeting
 
 module _ {P S : Type 0} (C : Coordinates P) {K : Store P S} (L : Stored K) (crossing : Crossing P) (s : S) (used a b : ℕ) (u : LeftEnd (look K s used) used a) (v : LeftEnd (look K s used) used b) (apart : a ≢ b) where
-  crossed-each : (found : Cross P) (p : P) → found ≡ point p → (crossed C K s used a b p).stop ≡ Going
+  crossed-each : (found : Cross P) (p : P) → found ≡ point p → (crossed C K s used a b p).stop ≡ Ok tt
       → EachCut C found (look K s used) (look K (crossed C K s used a b p).store (crossed C K s used a b p).used) a b
   unfolding crossed at_end
   crossed-each found p is h =
@@ -145,14 +144,14 @@ module _ {P S : Type 0} (C : Coordinates P) {K : Store P S} (L : Stored K) (cros
       rw on.then (record { p = p; is = is; first = first-cut C _ _ used _ a b p first u v apart _ _ second; second = second-cut C _ _ used _ a b p first u v apart _ _ second })
 
   -- After code 1 each segment is whole, or cut where its own left end puts the crossing.
-  pub each-cut : (meet C K crossing s used a b).met ≡ Code 1 → EachCut C (crossing_of C K crossing s used a b) (look K s used) (look K (meet C K crossing s used a b).store (meet C K crossing s used a b).used) a b
+  pub each-cut : (meet C K crossing s used a b).met ≡ Ok 1 → EachCut C (crossing_of C K crossing s used a b) (look K s used) (look K (meet C K crossing s used a b).store (meet C K crossing s used a b).used) a b
   unfolding meet ended
   each-cut h = go _ (came C K s used a b _ _ _) h
     where
       found : Cross P
       found = crossing_of C K crossing s used a b
 
-      go : {oneRight : Bool} (m : Meeting S) → Came C K s used a b found oneRight m → m.met ≡ Code 1 → EachCut C found (look K s used) (look K m.store m.used) a b
+      go : {oneRight : Bool} (m : Meeting S) → Came C K s used a b found oneRight m → m.met ≡ Ok 1 → EachCut C found (look K s used) (look K m.store m.used) a b
       go m (at-point p is) h = crossed-each found p is (went _ 1 1 h).0
       go m (one_left i k e) h = absurd (let z = (went _ 2 1 h).1 in omega arith)
       go m (another x c not-1 not-2) h = absurd (not-1 (went _ c 1 h).1)

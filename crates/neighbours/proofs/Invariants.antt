@@ -1,5 +1,7 @@
 -- What is known all through one run: of stores, of numbers at hand, of points and of refusals; and what keeps it. Most facts are of stores alone, kept where
 -- a record is stored over one with its face and where a division is done; for those there are short forms.
+use Rattle.std.proofs.Common.{Err, Ok}
+use Rattle.refusals.specs.declared.Reason.TheVariants as Reason
 use mathlib.Core.Path.{◌≡◌, refl, ◌∙◌}
 use Prim.Native.Nat.{ℕ, ◌+◌, ◌<◌, ◌≤◌}
 use native.Mathlib.Omega.{arith}
@@ -10,7 +12,6 @@ use Rattle.events.specs.Event.{Event}
 use Rattle.events.specs.Store.{Store, look}
 use Rattle.events.proofs.Stored.{Stored}
 use Rattle.events.proofs.Faces.{Face, face-sym, face-store}
-use Rattle.division.specs.declared.Division.TheVariants.{Done, Refused as NotDivided}
 use Rattle.division.specs.declared.Divided.{Divided}
 use Rattle.division.specs.Division.{divide}
 use Rattle.neighbours.specs.Neighbours.{typed, coincided}
@@ -44,19 +45,19 @@ Coincides {P} {S} C K H N = (n : ℕ) (s : S) (a b : ℕ) → H n s → N n a �
 -- a division is done
 abbrev pub Divides : {P S : Type 0} → Coordinates P → Store P S → (ℕ → S → Type 0) → Type 0
 Divides {P} {S} C K H =
-    (n : ℕ) (s : S) (i : ℕ) (p : P) (d : Divided) → H n s → (divide C K s n i p).answer ≡ Done d → H (divide C K s n i p).used (divide C K s n i p).store
+    (n : ℕ) (s : S) (i : ℕ) (p : P) (d : Divided) → H n s → (divide C K s n i p).answer ≡ Ok d → H (divide C K s n i p).used (divide C K s n i p).store
 
 pub record Kept {P S : Type 0} (I : Invariant P S) (C : Coordinates P) (K : Store P S) (crossing : Crossing P) : Type 0 where
   pub points : (n : ℕ) (s : S) (r : ℕ) → I.OfStore n s → I.OfPoint (look K s n r).point
   -- the new left end of a division
   pub fresh : (n m : ℕ) → n + 2 ≤ m → I.OfNumber m (n + 1)
   pub crosses : (n : ℕ) (s : S) (a b : ℕ) → I.OfStore n s → I.OfNumber n a → I.OfNumber n b
-      → Crossed I.OfPoint (I.OfRefusal (record { number = 7; place = a })) (crossing_of C K crossing s n a b)
+      → Crossed I.OfPoint (I.OfRefusal (record { reason = Reason.Cut; place = a })) (crossing_of C K crossing s n a b)
   pub put : Puts K I.OfStore I.OfNumber
   pub coincides : Coincides C K I.OfStore I.OfNumber
-  pub done : (n : ℕ) (s : S) (i : ℕ) (p : P) (d : Divided) → I.OfStore n s → I.OfNumber n i → I.OfPoint p → (divide C K s n i p).answer ≡ Done d
+  pub done : (n : ℕ) (s : S) (i : ℕ) (p : P) (d : Divided) → I.OfStore n s → I.OfNumber n i → I.OfPoint p → (divide C K s n i p).answer ≡ Ok d
       → I.OfStore (divide C K s n i p).used (divide C K s n i p).store
-  pub told : (n : ℕ) (s : S) (i : ℕ) (p : P) (r : Refusal) → I.OfStore n s → I.OfNumber n i → (divide C K s n i p).answer ≡ NotDivided r → I.OfRefusal r
+  pub told : (n : ℕ) (s : S) (i : ℕ) (p : P) (r : Refusal) → I.OfStore n s → I.OfNumber n i → (divide C K s n i p).answer ≡ Err r → I.OfRefusal r
 
 -- another crossing tells the same where this is known
 abbrev pub Agrees : {P S : Type 0} → Invariant P S → Coordinates P → Store P S → (crossing crossing' : Crossing P) → Type 0

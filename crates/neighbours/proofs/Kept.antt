@@ -1,13 +1,15 @@
 -- One run, as two that are the same: an invariant that is kept is known after every meeting. The two may use crossings of their own, if these tell the same
 -- where the invariant is known.
+use Rattle.division.specs.declared.Divided.{Divided}
+use Rattle.std.proofs.Common.{Err, Ok, Result}
+use Rattle.refusals.specs.declared.Reason.TheVariants as Reason
+use Rattle.refusals.specs.declared.Refusal.{Refusal}
 use mathlib.Core.Path.{◌≡◌, refl}
 use Prim.Native.Nat.{ℕ, ◌+◌, ◌≤◌}
 use native.Mathlib.Omega.{arith}
 use lib.Dec.{eqb}
 use Rattle.events.specs.Coordinates.{Coordinates, same as same_point, Cross, none, lost, point, overlap, Crossing}
 use Rattle.events.specs.Store.{Store, look}
-use Rattle.division.specs.declared.Division.{Division}
-use Rattle.division.specs.declared.Division.TheVariants.{Done, Refused as NotDivided}
 use Rattle.division.specs.Division.{divide}
 use Rattle.division.proofs.Outcomes.{used-after, as_lent_lem}
 use Rattle.neighbours.specs.Step.{Step, step, stop_of, cut}
@@ -53,7 +55,7 @@ module _ {P S : Type 0} {C : Coordinates P} {K : Store P S} {crossing : Crossing
   abbrev B : Likeness P S P S
   B = diagonal I
 
-  crossed : (a : ℕ) (x : Cross P) → Crossed I.OfPoint (I.OfRefusal (record { number = 7; place = a })) x → CrossesAlike B a a x x
+  crossed : (a : ℕ) (x : Cross P) → Crossed I.OfPoint (I.OfRefusal (record { reason = Reason.Cut; place = a })) x → CrossesAlike B a a x x
   unfolding diagonal
   crossed a none h = apart
   crossed a lost h = astray (same h)
@@ -64,14 +66,14 @@ module _ {P S : Type 0} {C : Coordinates P} {K : Store P S} {crossing : Crossing
   unfolding diagonal cut stop_of
   kept-cut n s i p h at q = go (divide C K s n i p).answer refl
     where
-      after : Division → Step S
+      after : Result Divided Refusal → Step S
       after x = step (divide C K s n i p).store (divide C K s n i p).used (stop_of x)
 
-      go : (x : Division) → (divide C K s n i p).answer ≡ x → StepsAlike B n (n + 2) (after x) (after x)
-      go (Done d) e =
+      go : (x : Result Divided Refusal) → (divide C K s n i p).answer ≡ x → StepsAlike B n (n + 2) (after x) (after x)
+      go (Ok d) e =
           let more = used-after C K s n i p d e in
           went {n = (divide C K s n i p).used} (omega arith) (record { alike = same (k.done n s i p d h at q e) })
-      go (NotDivided r) e =
+      go (Err r) e =
           let lent = as_lent_lem C K s n i p r e in
           let more = lent.used in
           let still : I.OfStore (divide C K s n i p).used (divide C K s n i p).store = rw (lent.store, lent.used) h in

@@ -1,5 +1,6 @@
 -- Two stores over one kind of coordinate whose records at hand have equal keys: every test of a meeting sees no more than keys, so that it tells the same.
 use mathlib.Core.Path.{◌≡◌, refl, ap, ap₂}
+use Rattle.refusals.specs.declared.Reason.TheVariants as Reason
 use mathlib.Core.Bool.{◌||◌, beq}
 use Prim.Native.Nat.{ℕ, ◌+◌, ◌≤◌}
 use lib.Dec.{eqb}
@@ -21,7 +22,7 @@ pub record Keyed {P S S' : Type 0} (B : Likeness P S P S') (C : Coordinates P) (
   pub fresh : {n m : ℕ} {s : S} {s' : S'} → StoresAlike B n s s' → n + 2 ≤ m → NumbersAlike B m (n + 1) (n + 1)
   pub points : {p p' : P} → p' ≡ p → PointsAlike B p p'
   pub points-are : {p p' : P} → PointsAlike B p p' → p' ≡ p
-  pub told : {n a a' : ℕ} → NumbersAlike B n a a' → B.Refusals (record { number = 7; place = a }) (record { number = 7; place = a' })
+  pub told : {n a a' : ℕ} → NumbersAlike B n a a' → B.Refusals (record { reason = Reason.Cut; place = a }) (record { reason = Reason.Cut; place = a' })
   pub cuts : {n : ℕ} {s : S} {s' : S'} {i i' : ℕ} {p p' : P} → StoresAlike B n s s' → NumbersAlike B n i i' → p' ≡ p → StepsAlike B n (n + 2) (cut C K s n i p) (cut C K' s' n i' p')
   pub coincides : {n : ℕ} {s : S} {s' : S'} {a b a' b' : ℕ} → StoresAlike B n s s' → NumbersAlike B n a a' → NumbersAlike B n b b' → StoresAlike B n (coincided C K s n a b) (coincided C K' s' n a' b')
 

@@ -1,4 +1,7 @@
 -- The code's tests and steps, one equation each, put together to the definition of a meeting.
+use Rattle.std.proofs.Common.{Err, Ok, Result}
+use Rattle.refusals.specs.declared.Reason.TheVariants as Reason
+use Rattle.refusals.specs.Refusals.{Verdict}
 use mathlib.Core.Path.{◌≡◌, ap, ap₂, ◌∙◌}
 use mathlib.Core.Bool.{Bool, true, false, cond}
 use Prim.Native.Nat.{ℕ}
@@ -8,19 +11,16 @@ use Rattle.events.specs.Event.{Event, Key}
 use Rattle.events.specs.Store.{Store, look}
 use Rattle.order.specs.Order.{before}
 use Rattle.order.specs.Keys.{key_used}
-use Rattle.neighbours.specs.declared.Met.{Met}
-use Rattle.neighbours.specs.declared.step.Stop.{Stop}
-use Rattle.neighbours.specs.declared.step.Stop.TheVariants.{Going, Stopped}
 use Rattle.neighbours.specs.Step.{Step, step, go_on, and_then, cut_unless}
 use Rattle.neighbours.specs.Neighbours.{Meeting, meeting, met_by, ended, mate_of, right_of, at_end, crossed, left_shared, laid, ends_first, overlapped, one_layer, meet_by, meet}
 
 -- the last step ends the meeting
-pub ended_is : {S : Type 0} (t : S) (n m : ℕ) (x : Stop) (z : Met) (y : Step S) (code : ℕ) → step t n x ≡ y → m ≡ n → z ≡ met_by x code → meeting t m z ≡ ended y code
+pub ended_is : {S : Type 0} (t : S) (n m : ℕ) (x : Verdict) (z : Result ℕ Refusal) (y : Step S) (code : ℕ) → step t n x ≡ y → m ≡ n → z ≡ met_by x code → meeting t m z ≡ ended y code
 unfolding ended
 ended_is t n m x z y code h p q = rw (← h, p, q)
 
 -- nothing is done
-pub still-is : {S : Type 0} (s : S) (used m n : ℕ) (z : Met) (x : Stop) → n ≡ used → x ≡ Going → m ≡ n → z ≡ met_by x 0 → meeting s m z ≡ ended (step s used Going) 0
+pub still-is : {S : Type 0} (s : S) (used m n : ℕ) (z : Result ℕ Refusal) (x : Verdict) → n ≡ used → x ≡ Ok tt → m ≡ n → z ≡ met_by x 0 → meeting s m z ≡ ended (step s used (Ok tt)) 0
 unfolding ended
 still-is s used m n z x p q e f = rw (e, f, p, q)
 
@@ -34,12 +34,12 @@ module _ {P S : Type 0} (C : Coordinates P) (K : Store P S) (s : S) (used : ℕ)
     unfolding at_end
     at_right q second h e j = rw (← at, ← is, h, ← e) j
 
-  module _ (a b : ℕ) (p : P) (aEnds bEnds : Bool) (ha : aEnds ≡ at_end C K s used a p) (hb : bEnds ≡ at_end C K s used b p) (t : S) (n : ℕ) (x : Stop) (h : step t n x ≡ cut_unless C K aEnds s used a p) where
-    pub crossed-on : (y : Step S) → x ≡ Going → y ≡ cut_unless C K bEnds t n b p → y ≡ crossed C K s used a b p
+  module _ (a b : ℕ) (p : P) (aEnds bEnds : Bool) (ha : aEnds ≡ at_end C K s used a p) (hb : bEnds ≡ at_end C K s used b p) (t : S) (n : ℕ) (x : Verdict) (h : step t n x ≡ cut_unless C K aEnds s used a p) where
+    pub crossed-on : (y : Step S) → x ≡ Ok tt → y ≡ cut_unless C K bEnds t n b p → y ≡ crossed C K s used a b p
     unfolding crossed and_then go_on
     crossed-on y g e = rw (← ha, ← h, ← hb, g) e
 
-    pub crossed-stopped : (r : Refusal) → x ≡ Stopped r → step t n x ≡ crossed C K s used a b p
+    pub crossed-stopped : (r : Refusal) → x ≡ Err r → step t n x ≡ crossed C K s used a b p
     unfolding crossed and_then go_on
     crossed-stopped r g = rw (← ha, ← h, ← hb, g)
 
@@ -56,11 +56,11 @@ module _ {P S : Type 0} (C : Coordinates P) (K : Store P S) (s : S) (used : ℕ)
   -- ---- by what is in common
 
   module _ (a b : ℕ) (oneLeft oneRight : Bool) (z : Meeting S) where
-    pub at-shared-left : (p : P) → oneLeft ≡ true → z ≡ ended (step s used Going) 0 → z ≡ meet_by C K (point p) s used a b oneLeft oneRight
+    pub at-shared-left : (p : P) → oneLeft ≡ true → z ≡ ended (step s used (Ok tt)) 0 → z ≡ meet_by C K (point p) s used a b oneLeft oneRight
     unfolding meet_by
     at-shared-left p h e = rw h e
 
-    pub at-shared-right : (p : P) → oneLeft ≡ false → oneRight ≡ true → z ≡ ended (step s used Going) 0 → z ≡ meet_by C K (point p) s used a b oneLeft oneRight
+    pub at-shared-right : (p : P) → oneLeft ≡ false → oneRight ≡ true → z ≡ ended (step s used (Ok tt)) 0 → z ≡ meet_by C K (point p) s used a b oneLeft oneRight
     unfolding meet_by
     at-shared-right p h k e = rw (h, k) e
 
@@ -68,18 +68,18 @@ module _ {P S : Type 0} (C : Coordinates P) (K : Store P S) (s : S) (used : ℕ)
     unfolding meet_by
     at-point p h k e = rw (h, k) e
 
-    pub lost-met : (c : Cross P) → c ≡ lost → z ≡ ended (step s used (Stopped (record { number = 7; place = a }))) 0 → z ≡ meet_by C K c s used a b oneLeft oneRight
+    pub lost-met : (c : Cross P) → c ≡ lost → z ≡ ended (step s used (Err (record { reason = Reason.Cut; place = a }))) 0 → z ≡ meet_by C K c s used a b oneLeft oneRight
     unfolding meet_by
     lost-met c h e = rw h e
 
     pub point-met : (c : Cross P) (p : P) → c ≡ point p → z ≡ meet_by C K (point p) s used a b oneLeft oneRight → z ≡ meet_by C K c s used a b oneLeft oneRight
     point-met c p h e = rw h e
 
-    pub none-met : (c : Cross P) → c ≡ none → z ≡ ended (step s used Going) 0 → z ≡ meet_by C K c s used a b oneLeft oneRight
+    pub none-met : (c : Cross P) → c ≡ none → z ≡ ended (step s used (Ok tt)) 0 → z ≡ meet_by C K c s used a b oneLeft oneRight
     unfolding meet_by
     none-met c h e = rw h e
 
-    pub one-layer : (c : Cross P) (p q : P) (one : Bool) → c ≡ overlap p q → one ≡ one_layer C K s used a b → one ≡ true → z ≡ ended (step s used Going) 0 → z ≡ meet_by C K c s used a b oneLeft oneRight
+    pub one-layer : (c : Cross P) (p q : P) (one : Bool) → c ≡ overlap p q → one ≡ one_layer C K s used a b → one ≡ true → z ≡ ended (step s used (Ok tt)) 0 → z ≡ meet_by C K c s used a b oneLeft oneRight
     unfolding meet_by
     one-layer c p q one h k l e = rw (h, ← k, l) e
 

@@ -1,4 +1,6 @@
 -- A cut by its division's answer: two places more in use, or nothing moved.
+use Rattle.std.proofs.Common.{Err, Ok, Result}
+use Rattle.refusals.specs.Refusals.{Verdict}
 use mathlib.Core.Path.{◌≡◌, refl, sym, ap, ◌∙◌}
 use mathlib.Core.Bool.{Bool, true, false}
 use Prim.Native.Nat.{ℕ, ◌+◌, ◌<◌}
@@ -6,21 +8,17 @@ use native.Mathlib.Omega.{arith}
 use Rattle.refusals.specs.declared.Refusal.{Refusal}
 use Rattle.events.specs.Coordinates.{Coordinates}
 use Rattle.events.specs.Store.{Store}
-use Rattle.division.specs.declared.Division.{Division}
-use Rattle.division.specs.declared.Division.TheVariants.{Done, Refused}
 use Rattle.division.specs.declared.Divided.{Divided}
 use Rattle.division.specs.Division.{After, done, divide}
 use Rattle.division.proofs.Outcomes.{passed, as_lent_lem}
-use Rattle.neighbours.specs.declared.step.Stop.{Stop}
-use Rattle.neighbours.specs.declared.step.Stop.TheVariants.{Going, Stopped}
 use Rattle.neighbours.specs.Step.{Step, step, stop_of, go_on, and_then, cut, cut_unless, twice}
 
-left-of : ℕ → Division → ℕ
-left-of n (Done d) = d.left
-left-of n (Refused r) = n
+left-of : ℕ → Result Divided Refusal → ℕ
+left-of n (Ok d) = d.left
+left-of n (Err r) = n
 
 module _ {P S : Type 0} (C : Coordinates P) (K : Store P S) (s : S) (used i : ℕ) (p : P) where
-  module _ (d : Divided) (h : Done d ≡ (divide C K s used i p).answer) where
+  module _ (d : Divided) (h : Ok d ≡ (divide C K s used i p).answer) where
     -- the new left end has the number after the first free one
     pub left_is : d.left ≡ used + 1
     unfolding done left-of
@@ -34,20 +32,20 @@ module _ {P S : Type 0} (C : Coordinates P) (K : Store P S) (s : S) (used i : �
     unfolding done
     used-is = ap (λ (x : After S). x.used) (passed C K s used i p d (sym h)).is
 
-    pub cut-done : (t : S) → t ≡ (divide C K s used i p).store → step t (d.left + 1) Going ≡ cut C K s used i p
+    pub cut-done : (t : S) → t ≡ (divide C K s used i p).store → step t (d.left + 1) (Ok tt) ≡ cut C K s used i p
     unfolding cut stop_of
     cut-done t e =
         let n : d.left + 1 ≡ used + 2 = omega (arith, left_is) in
         rw (← h, used-is, e, n)
 
-  pub cut-refused : (r : Refusal) (t : S) → Refused r ≡ (divide C K s used i p).answer → t ≡ (divide C K s used i p).store → step t used (Stopped r) ≡ cut C K s used i p
+  pub cut-refused : (r : Refusal) (t : S) → Err r ≡ (divide C K s used i p).answer → t ≡ (divide C K s used i p).store → step t used (Err r) ≡ cut C K s used i p
   unfolding cut stop_of
   cut-refused r t h e = rw (← h, e, (as_lent_lem C K s used i p r (sym h)).used)
 
 -- ---- one step after another
 
 module _ {P S : Type 0} (C : Coordinates P) (K : Store P S) (s : S) (used i : ℕ) (p : P) where
-  pub not-cut : (b : Bool) (n : ℕ) (x : Stop) → b ≡ true → n ≡ used → x ≡ Going → step s n x ≡ cut_unless C K b s used i p
+  pub not-cut : (b : Bool) (n : ℕ) (x : Verdict) → b ≡ true → n ≡ used → x ≡ Ok tt → step s n x ≡ cut_unless C K b s used i p
   unfolding cut_unless
   not-cut b n x h e f = rw (h, e, f)
 
@@ -56,20 +54,20 @@ module _ {P S : Type 0} (C : Coordinates P) (K : Store P S) (s : S) (used i : �
   is_cut b y h e = rw h e
 
   -- the first step done, and what is left of it
-  module _ (t : S) (n : ℕ) (x : Stop) (h : step t n x ≡ cut C K s used i p) where
-    pub then-on : (j : ℕ) (q : P) (y : Step S) → x ≡ Going → y ≡ cut C K t n j q → y ≡ twice C K s used i p j q
+  module _ (t : S) (n : ℕ) (x : Verdict) (h : step t n x ≡ cut C K s used i p) where
+    pub then-on : (j : ℕ) (q : P) (y : Step S) → x ≡ Ok tt → y ≡ cut C K t n j q → y ≡ twice C K s used i p j q
     unfolding twice and_then go_on
     then-on j q y g e = rw (← h, g) e
 
-    pub then-stopped : (j : ℕ) (q : P) (r : Refusal) → x ≡ Stopped r → step t n x ≡ twice C K s used i p j q
+    pub then-stopped : (j : ℕ) (q : P) (r : Refusal) → x ≡ Err r → step t n x ≡ twice C K s used i p j q
     unfolding twice and_then go_on
     then-stopped j q r g = rw (← h, g)
 
     -- it has put two places into use
-    pub grown : x ≡ Going → n ≡ used + 2
+    pub grown : x ≡ Ok tt → n ≡ used + 2
     unfolding cut stop_of
     grown g = go (divide C K s used i p).answer refl (sym g ∙ ap (λ (y : Step S). y.stop) h)
       where
-        go : (a : Division) → (divide C K s used i p).answer ≡ a → Going ≡ stop_of a → n ≡ used + 2
-        go (Done d) e g = ap (λ (y : Step S). y.used) h ∙ used-is C K s used i p d (sym e)
-        go (Refused r) e g = let z : ◌≡◌ {A = ℕ} 0 1 = cc in absurd (omega arith)
+        go : (a : Result Divided Refusal) → (divide C K s used i p).answer ≡ a → Ok tt ≡ stop_of a → n ≡ used + 2
+        go (Ok d) e g = ap (λ (y : Step S). y.used) h ∙ used-is C K s used i p d (sym e)
+        go (Err r) e g = let z : ◌≡◌ {A = ℕ} 0 1 = cc in absurd (omega arith)

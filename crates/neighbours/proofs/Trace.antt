@@ -1,5 +1,6 @@
 -- What was stored on the way, one after the other: records over ones with their faces, and divisions. A trace is an invariant like any other (`Invariants`), so
 -- that every run has one, and what is to be shown of runs can be shown of traces. The run's divisions are those of its trace.
+use Rattle.std.proofs.Common.{Ok}
 use mathlib.Core.Path.{◌≡◌}
 use Prim.Native.Nat.{ℕ, suc, ◌+◌, ◌*◌, ◌≤◌}
 use native.Mathlib.Omega.{arith}
@@ -8,7 +9,6 @@ use Rattle.events.specs.Event.{Event}
 use Rattle.events.specs.Store.{Store, look}
 use Rattle.events.proofs.Stored.{Stored}
 use Rattle.events.proofs.Faces.{Face}
-use Rattle.division.specs.declared.Division.TheVariants.{Done}
 use Rattle.division.specs.declared.Divided.{Divided}
 use Rattle.division.specs.Division.{divide}
 use Rattle.division.proofs.Outcomes.{passed, used-after, same_size}
@@ -18,7 +18,7 @@ use Rattle.neighbours.proofs.Invariants.{store_alone, Kept, store_kept}
 pub data Trace {P S : Type 0} (C : Coordinates P) (K : Store P S) (first : S) (from : ℕ) : ℕ → S → Type 0 where
   begun : Trace C K first from from first
   stored : {n : ℕ} {s : S} → Trace C K first from n s → (i : ℕ) (e : Event P) → Face e (look K s n i) → Trace C K first from n (K.store s i e)
-  divided : {n : ℕ} {s : S} → Trace C K first from n s → (i : ℕ) (p : P) (d : Divided) → (divide C K s n i p).answer ≡ Done d
+  divided : {n : ℕ} {s : S} → Trace C K first from n s → (i : ℕ) (p : P) (d : Divided) → (divide C K s n i p).answer ≡ Ok d
       → Trace C K first from (divide C K s n i p).used (divide C K s n i p).store
 
 module _ {P S : Type 0} {C : Coordinates P} {K : Store P S} {first : S} {from : ℕ} where

@@ -1,5 +1,6 @@
 -- Two meetings side by side: where every test tells the same and every store keeps the stores alike, the whole is alike. One walk through the
 -- definition for every fact about two runs, and for every fact about one (`Kept`).
+use Rattle.std.proofs.Common.{Ok}
 use mathlib.Core.Path.{◌≡◌, refl}
 use mathlib.Core.Bool.{Bool, true, false, cond, ◌||◌}
 use Prim.Native.Nat.{ℕ, ◌+◌, ◌≤◌}
@@ -7,7 +8,6 @@ use native.Mathlib.Omega.{arith}
 use lib.Dec.{eqb}
 use Rattle.events.specs.Coordinates.{Coordinates, same, Cross, Crossing}
 use Rattle.events.specs.Store.{Store, look}
-use Rattle.neighbours.specs.declared.step.Stop.TheVariants.{Going}
 use Rattle.neighbours.specs.Step.{Step, step, go_on, and_then, cut, cut_unless, twice}
 use Rattle.neighbours.specs.Neighbours.{Meeting, met_by, ended, right_of, at_end, crossed, coincided, left_shared, laid, begins_first, ends_first, overlapped, one_layer, meet_by, meet}
 use Rattle.neighbours.proofs.Likeness.{Likeness, StoresAlike, NumbersAlike, PointsAlike, StepsAlike, went, halted, out, MeetingsAlike, met, broken, off, CrossesAlike, apart, astray, across, along, crossing_of}
@@ -110,7 +110,7 @@ module _ {P S P' S' : Type 0} {B : Likeness P S P' S'} {C : Coordinates P} {K : 
           (steps-ended 2 (omega arith) (alike-unless oneRight oneRight refl (M.coincides w at_a at_b) (pick last at_b at_a) (M.rights w (pick last at_a at_b))))
           (steps-ended 3 (omega arith) (alike-laid oneRight (pick first at_a at_b) (pick first at_b at_a) (pick last at_a at_b) (pick last at_b at_a))))
 
-      nothing : MeetingsAlike B n (ended (step s n Going) 0) (ended (step s' n Going) 0)
+      nothing : MeetingsAlike B n (ended (step s n (Ok tt)) 0) (ended (step s' n (Ok tt)) 0)
       nothing = steps-ended {a = n} {b = n} 0 (omega arith) (went (omega arith) w)
 
       alike-by : {x : Cross P} {x' : Cross P'} (oneLeft oneRight : Bool) → CrossesAlike B a a' x x'

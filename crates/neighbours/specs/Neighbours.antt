@@ -1,6 +1,9 @@
 -- Neighbours (`possible_intersection.rs`), over any kind of coordinate, any store and any crossing. Two left records a and b, whose partners are their
 -- right ends. The code is the source's: 0 nothing done, 1 cut where they cross, 2 one left end, 3 overlap otherwise.
-use Rattle.std.specs.Prelude.{Bool, cond, ◌||◌, ℕ, ◌+◌, eqb}
+use Rattle.std.specs.Prelude.{Bool, cond, ◌||◌, ℕ, ◌+◌, eqb, Err, Ok, Result}
+use Rattle.refusals.specs.declared.Reason.TheVariants as Reason
+use Rattle.refusals.specs.declared.Refusal.{Refusal}
+use Rattle.refusals.specs.Refusals.{Verdict}
 use Rattle.std.specs.Bool.{beq}
 use Rattle.events.specs.declared.EdgeType.{EdgeType}
 use Rattle.events.specs.declared.EdgeType.TheVariants.{NonContributing, SameTransition, DifferentTransition}
@@ -9,24 +12,20 @@ use Rattle.events.specs.Event.{Event}
 use Rattle.events.specs.Store.{Store, look}
 use Rattle.order.specs.Order.{before}
 use Rattle.order.specs.Keys.{key_used}
-use Rattle.neighbours.specs.declared.Met.{Met}
-use Rattle.neighbours.specs.declared.Met.TheVariants.{Code, Refused}
-use Rattle.neighbours.specs.declared.step.Stop.{Stop}
-use Rattle.neighbours.specs.declared.step.Stop.TheVariants.{Going, Stopped}
 use Rattle.neighbours.specs.Step.{Step, step, and_then, cut, cut_unless, twice}
 
 -- the outcome: store, places in use, and the code or the refusal
 pub record Meeting (S : Type 0) : Type 0 where
   pub store : S
   pub used : ℕ
-  pub met : Met
+  pub met : Result ℕ Refusal
 
-abbrev pub meeting : {S : Type 0} → S → ℕ → Met → Meeting S
+abbrev pub meeting : {S : Type 0} → S → ℕ → Result ℕ Refusal → Meeting S
 meeting s used x = record { store = s; used = used; met = x }
 
-unfoldable pub met_by : Stop → ℕ → Met
-met_by Going code = Code code
-met_by (Stopped r) code = Refused r
+unfoldable pub met_by : Verdict → ℕ → Result ℕ Refusal
+met_by (Ok _) code = Ok code
+met_by (Err r) code = Err r
 
 unfoldable pub ended : {S : Type 0} → Step S → ℕ → Meeting S
 ended x code = meeting x.store x.used (met_by x.stop code)
@@ -112,11 +111,11 @@ module _ {P S : Type 0} (C : Coordinates P) (K : Store P S) where
   -- ---- all of it
 
   unfoldable pub meet_by : Cross P → S → ℕ → ℕ → ℕ → Bool → Bool → Meeting S
-  meet_by none s used a b oneLeft oneRight = ended (step s used Going) 0
-  meet_by lost s used a b oneLeft oneRight = ended (step s used (Stopped (record { number = 7; place = a }))) 0
-  meet_by (point p) s used a b oneLeft oneRight = cond (oneLeft || oneRight) (ended (step s used Going) 0) (ended (crossed s used a b p) 1)
+  meet_by none s used a b oneLeft oneRight = ended (step s used (Ok tt)) 0
+  meet_by lost s used a b oneLeft oneRight = ended (step s used (Err (record { reason = Reason.Cut; place = a }))) 0
+  meet_by (point p) s used a b oneLeft oneRight = cond (oneLeft || oneRight) (ended (step s used (Ok tt)) 0) (ended (crossed s used a b p) 1)
   meet_by (overlap p q) s used a b oneLeft oneRight =
-      cond (one_layer s used a b) (ended (step s used Going) 0) (overlapped s used a b oneLeft oneRight)
+      cond (one_layer s used a b) (ended (step s used (Ok tt)) 0) (overlapped s used a b oneLeft oneRight)
 
   unfoldable pub meet : Crossing P → S → ℕ → ℕ → ℕ → Meeting S
   meet crossing s used a b =

@@ -1,30 +1,29 @@
 -- Cuts one after the other, over any kind of coordinate and any store: each goes on from what the one before left, and none follows a refusal.
-use Rattle.std.specs.Prelude.{Bool, cond, ℕ}
+use Rattle.division.specs.declared.Divided.{Divided}
+use Rattle.std.specs.Prelude.{Bool, cond, ℕ, Err, Ok, Result}
+use Rattle.refusals.specs.declared.Refusal.{Refusal}
+use Rattle.refusals.specs.Refusals.{Verdict}
 use Rattle.events.specs.Coordinates.{Coordinates}
 use Rattle.events.specs.Store.{Store}
-use Rattle.division.specs.declared.Division.{Division}
-use Rattle.division.specs.declared.Division.TheVariants.{Done, Refused as NotDivided}
 use Rattle.division.specs.Division.{divide}
-use Rattle.neighbours.specs.declared.step.Stop.{Stop}
-use Rattle.neighbours.specs.declared.step.Stop.TheVariants.{Going, Stopped}
 
 -- what has been done: the store, how many places are in use, and what stopped it
 pub record Step (S : Type 0) : Type 0 where
   pub store : S
   pub used : ℕ
-  pub stop : Stop
+  pub stop : Verdict
 
-abbrev pub step : {S : Type 0} → S → ℕ → Stop → Step S
+abbrev pub step : {S : Type 0} → S → ℕ → Verdict → Step S
 step s used x = record { store = s; used = used; stop = x }
 
-unfoldable pub stop_of : Division → Stop
-stop_of (Done d) = Going
-stop_of (NotDivided r) = Stopped r
+unfoldable pub stop_of : Result Divided Refusal → Verdict
+stop_of (Ok d) = Ok tt
+stop_of (Err r) = Err r
 
 -- the next step, where nothing was refused
-unfoldable pub go_on : {S : Type 0} → Stop → Step S → (S → ℕ → Step S) → Step S
-go_on Going x next = next x.store x.used
-go_on (Stopped r) x next = x
+unfoldable pub go_on : {S : Type 0} → Verdict → Step S → (S → ℕ → Step S) → Step S
+go_on (Ok _) x next = next x.store x.used
+go_on (Err r) x next = x
 
 unfoldable pub and_then : {S : Type 0} → Step S → (S → ℕ → Step S) → Step S
 and_then x next = go_on x.stop x next
@@ -36,7 +35,7 @@ module _ {P S : Type 0} (C : Coordinates P) (K : Store P S) where
 
   -- the same, where the segment is to be cut at all: b says that it is not
   unfoldable pub cut_unless : Bool → S → ℕ → ℕ → P → Step S
-  cut_unless b s used i p = cond b (step s used Going) (cut s used i p)
+  cut_unless b s used i p = cond b (step s used (Ok tt)) (cut s used i p)
 
   -- one cut, and then another
   unfoldable pub twice : S → ℕ → ℕ → P → ℕ → P → Step S

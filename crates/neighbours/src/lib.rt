@@ -15,18 +15,11 @@ mod meeting;
 mod overlap;
 mod step;
 
-// What was done, by the source's code, or why it was not done to the end.
-#[derive(Clone, Copy)]
-pub enum Met {
-    Code(u32),
-    Refused(Refusal),
-}
-
 #[derive(Clone, Copy)]
 pub struct Neighbours {
     // The places in use now.
     pub used: u32,
-    pub met: Met,
+    pub met: Result<u32, Refusal>,
 }
 
 // The segments of two left records, where the first `used` places of the pool are in use: codes 0 to 3 and their divisions as the source.

@@ -7,14 +7,14 @@ ghost use Rattle.neighbours.specs.Step.{step};
 ghost use Rattle.neighbours.specs.Neighbours as Spec;
 ghost use Rattle.neighbours.specs.Neighbours.{meeting, met_by};
 
+use crate::Neighbours;
 use crate::overlap::{lay, left_point, left_shared, right_point};
-use crate::step::{Step, Stop, cut_unless, still};
-use crate::{Met, Neighbours};
+use crate::step::{Step, cut_unless, still};
 use events::points::{Meeting, same_point};
 use events::pool::read_used;
 use numbers::Point;
 use order::{before, key_used};
-use refusals::{CUT, Refusal};
+use refusals::{Reason, Refusal};
 
 // p is an end of the segment of record r.
 fn at_end(points: &[[u64; 2]], marks: &[[u32; 12]], used: u32, r: u32, p: Point) -> bool
@@ -42,17 +42,17 @@ fn cross(
     let first = cut_unless(points, marks, used, a_ends, a, p);
     let stop = first.stop;
     match stop {
-        Stop::Going => cut_unless(points, marks, first.used, b_ends, b, p),
-        Stop::Stopped(_) => first,
+        Ok(()) => cut_unless(points, marks, first.used, b_ends, b, p),
+        Err(_) => first,
     }
 }
 
-fn met(stop: Stop, code: u32) -> Met
+fn met(stop: Result<(), Refusal>, code: u32) -> Result<u32, Refusal>
     ensures { result ≡ met_by stop code }
 {
     match stop {
-        Stop::Going => Met::Code(code),
-        Stop::Stopped(refusal) => Met::Refused(refusal),
+        Ok(()) => Ok(code),
+        Err(refusal) => Err(refusal),
     }
 }
 
@@ -162,8 +162,8 @@ pub fn meet_by(
         Meeting::Nothing => ended(still(used), 0),
         Meeting::Lost => Neighbours {
             used: used,
-            met: Met::Refused(Refusal {
-                number: CUT,
+            met: Err(Refusal {
+                reason: Reason::Cut,
                 place: a as u64,
             }),
         },

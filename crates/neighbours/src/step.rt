@@ -1,33 +1,27 @@
 // One cut as a step of several: none follows a refusal.
-ghost use Rattle.std.specs.Prelude.{◌≡◌, ◌+◌};
+ghost use Rattle.std.specs.Prelude.{◌≡◌, ◌+◌, Ok};
 ghost use Rattle.events.specs.Binary64.{at_binary64};
 ghost use Rattle.events.specs.Pool.{pool, stored};
 ghost use Rattle.neighbours.specs.Step as Spec;
 ghost use Rattle.neighbours.specs.Step.{step};
 
-use division::{Division, divide_segment};
+use division::divide_segment;
 use numbers::Point;
 use refusals::Refusal;
 
 #[derive(Clone, Copy)]
-pub enum Stop {
-    Going,
-    Stopped(Refusal),
-}
-
-#[derive(Clone, Copy)]
 pub struct Step {
     pub used: u32,
-    pub stop: Stop,
+    pub stop: Result<(), Refusal>,
 }
 
 // Nothing was done.
 pub fn still(used: u32) -> Step
-    ensures { (result.used ≡ used) × (result.stop ≡ Stop.Going) }
+    ensures { (result.used ≡ used) × (result.stop ≡ Ok tt) }
 {
     Step {
         used: used,
-        stop: Stop::Going,
+        stop: Ok(()),
     }
 }
 
@@ -36,13 +30,13 @@ pub fn cut(points: &mut [[u64; 2]], marks: &mut [[u32; 12]], used: u32, i: u32, 
     ensures { step (pool points.new marks.new) result.used result.stop ≡ Spec.cut at_binary64 stored (pool points.old marks.old) used i p }
 {
     match divide_segment(points, marks, used, i, p) {
-        Division::Done(d) => Step {
+        Ok(d) => Step {
             used: d.left + 1,
-            stop: Stop::Going,
+            stop: Ok(()),
         },
-        Division::Refused(refusal) => Step {
+        Err(refusal) => Step {
             used: used,
-            stop: Stop::Stopped(refusal),
+            stop: Err(refusal),
         },
     }
 }
@@ -79,8 +73,8 @@ pub fn twice(
     let first = cut(points, marks, used, i, p);
     let stop = first.stop;
     match stop {
-        Stop::Going => cut(points, marks, first.used, j, q),
-        Stop::Stopped(_) => first,
+        Ok(()) => cut(points, marks, first.used, j, q),
+        Err(_) => first,
     }
 }
 
@@ -98,7 +92,7 @@ pub fn cut_on(
     let first = cut(points, marks, used, i, p);
     let stop = first.stop;
     match stop {
-        Stop::Going => cut(points, marks, first.used, first.used - 1, q),
-        Stop::Stopped(_) => first,
+        Ok(()) => cut(points, marks, first.used, first.used - 1, q),
+        Err(_) => first,
     }
 }

@@ -1,10 +1,10 @@
 -- Where the arrays hold the places among the ordered records and the marks of the walk, the numbers written are connection's.
+use Rattle.std.proofs.Common.{Option}
 use mathlib.Core.Path.{◌≡◌, refl, sym, ap, ◌∙◌}
 use mathlib.Core.List.{List}
 use Prim.Native.Nat.{ℕ, zero, suc, ◌<◌, ◌≤◌}
 use native.Mathlib.Omega.{arith}
 use lib.ListN.{length, get_or}
-use Rattle.events.specs.declared.Link.{Link}
 use Rattle.events.specs.Store.{Store}
 use Rattle.events.specs.Binary64.{at_binary64}
 use Rattle.events.specs.Pool.{Pool, size, row_at, stored}
@@ -13,10 +13,10 @@ use Rattle.contours.specs.Table.{place}
 use Rattle.contours.specs.Contours.{Contour}
 use Rattle.contours.specs.Connect.{contour_of, settled, number_in, finished}
 use Rattle.numbering.specs.Numbering.{number_at, settled_by}
-use Rattle.numbering.proofs.Numbers.{any-default}
+use Rattle.std.proofs.lemmas.List.{get_or_default}
 
 -- only the numbers of the first k records matter
-same_numbers : {P S : Type 0} (K : Store P S) (f g : ℕ → Link) (s : S) (k : ℕ) → ((r : ℕ) → r < k → f r ≡ g r) → settled K f k s ≡ settled K g k s
+same_numbers : {P S : Type 0} (K : Store P S) (f g : ℕ → Option ℕ) (s : S) (k : ℕ) → ((r : ℕ) → r < k → f r ≡ g r) → settled K f k s ≡ settled K g k s
 unfolding settled
 same_numbers K f g s zero h = refl
 same_numbers K f g s (suc k) h = rw (same_numbers K f g s k (λ r l. h r (omega arith)), h k (omega arith))
@@ -32,7 +32,7 @@ module _ (places walked order : List ℕ) (p : Pool) where
       (number_in order walked)
       p
       (size p)
-      (λ r l. ap (λ (i : ℕ). contour_of (get_or walked i 0)) (any-default places r (length walked) 0 (omega arith) ∙ e r l))
+      (λ r l. ap (λ (i : ℕ). contour_of (get_or walked i 0)) (get_or_default places r (length walked) 0 (omega arith) ∙ e r l))
 
 -- what connection gives of the pool
 pub finished-pool : (p : Pool) (list places walked : List ℕ) (cs : List Contour) → size p ≤ length places

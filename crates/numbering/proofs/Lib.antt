@@ -1,5 +1,4 @@
 -- Laws of contour numbers in the pool.
-pub mod Numbers
 pub mod TwoMarks
 pub mod Settling
 pub mod ByPlaces

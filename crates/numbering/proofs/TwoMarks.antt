@@ -1,4 +1,5 @@
 -- A record with another contour number says the same in all its other marks, so that only the contour's two are written.
+use Rattle.std.proofs.Common.{Option}
 use mathlib.Core.Path.{◌≡◌, refl, sym, ap, ap₂, ◌∙◌}
 use mathlib.Core.Bool.{false, true≢false}
 use mathlib.Core.List.{List, [], ◌∷◌}
@@ -6,7 +7,6 @@ use Prim.Native.Nat.{ℕ, ◌<◌}
 use native.Mathlib.Omega.{arith}
 use lib.ListN.{length, get_or, set, length-set}
 use lib.Seq.{get_or-set_same, get_or-set_other, set-get_or, ext_get_or}
-use Rattle.events.specs.declared.Link.{Link}
 use Rattle.events.specs.Event.{Event}
 use Rattle.events.specs.Lent.{among}
 use Rattle.events.specs.Pool.{event_of, there_over, link_over, marks_over}
@@ -14,11 +14,11 @@ use Rattle.events.proofs.Lent.{twelve, Agree, left, subject, ring, partner, ther
 use Rattle.contours.specs.Connect.{with_contour}
 use Rattle.numbering.specs.Numbering.{marks_with}
 
-pub contour-alone : {P : Type 0} (e : Event P) (l : Link) (k : ℕ) → k < 12 → among k (10 ∷ 11 ∷ []) ≡ false → Agree e (with_contour l e) k
+pub contour-alone : {P : Type 0} (e : Event P) (l : Option ℕ) (k : ℕ) → k < 12 → among k (10 ∷ 11 ∷ []) ≡ false → Agree e (with_contour l e) k
 unfolding with_contour
 contour-alone e l = twelve (λ k. among k (10 ∷ 11 ∷ []) ≡ false → Agree e (with_contour l e) k) (λ h. left refl) (λ h. subject refl) (λ h. ring refl) (λ h. partner refl) (λ h. there refl) (λ h. below refl) (λ h. edge_type refl) (λ h. transition refl) (λ h. in_out refl) (λ h. other_in_out refl) (λ h. absurd (true≢false h)) (λ h. absurd (true≢false h))
 
-module _ (q : List ℕ) (m : List ℕ) (l : Link) (size : length m ≡ 12) where
+module _ (q : List ℕ) (m : List ℕ) (l : Option ℕ) (size : length m ≡ 12) where
   abbrev there' : ℕ
   there' = there_over (get_or m 10 0) (get_or m 11 0) l
 

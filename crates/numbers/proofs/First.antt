@@ -1,31 +1,24 @@
--- Where the search for a number that is not finite stands after i numbers: what is left of the list decides.
-use mathlib.Core.Path.{◌≡◌}
-use mathlib.Core.Bool.{true, false}
+-- The library's search from the first number on tells the place of the first that is not finite.
+use mathlib.Core.Path.{◌≡◌, refl}
+use mathlib.Core.Bool.{not}
 use mathlib.Core.List.{List}
-use Prim.Native.Nat.{ℕ, ◌+◌, ◌<◌}
-use native.Mathlib.Numerals.{add-one}
+use Prim.Native.Nat.{◌≤◌}
 use native.Mathlib.Omega.{arith}
-use lib.ListN.{length, drop, get_or}
-use lib.Seq.{drop-cons, drop-length}
-use lib.Ieee.{Float, nan}
+use borrow.Author.Rules.{rules}
+use lib.ListN.{length}
+use lib.Ieee.{Float}
+use Rattle.std.specs.Option.{unwrap_or}
+use Rattle.std.specs.List.{position, position_or_len}
+use Rattle.std.proofs.lemmas.List.Recursion.{is_position_or_len}
+use Rattle.std.proofs.lemmas.List.Sums.{prefix_len-le-length}
+use Rattle.std.proofs.lemmas.Bool.Decides.{nat_tests}
 use Rattle.numbers.specs.Binary64.{not_finite, first_not_finite}
 
--- the search stands at i: the first is i further on than in what is left
-unfoldable pub at : List Float → ℕ → ℕ
-at xs i = i + first_not_finite (drop i xs)
+first_is : (xs : List Float) → first_not_finite xs ≡ position_or_len not_finite xs
+unfolding first_not_finite
+first_is xs = is_position_or_len first_not_finite not_finite refl (λ x l. search rules) xs
 
-pub found : (xs : List Float) (i : ℕ) → i < length xs → not_finite (get_or xs i nan) ≡ true → at xs i ≡ i
-unfolding at first_not_finite
-found xs i h e = rw (drop-cons xs i nan h, e) (omega arith)
-
-pub passed : (xs : List Float) (i : ℕ) → i < length xs → not_finite (get_or xs i nan) ≡ false → at xs i ≡ at xs (i + 1)
-unfolding at first_not_finite
-passed xs i h e = rw (drop-cons xs i nan h, e, add-one) (omega arith)
-
-pub ended : (xs : List Float) (i : ℕ) → i ≡ length xs → at xs i ≡ i
-unfolding at first_not_finite
-ended xs i e = rw (e, drop-length xs) (omega arith)
-
-pub begun : (xs : List Float) → at xs 0 ≡ first_not_finite xs
-unfolding at
-begun xs = omega arith
+pub position_is_first : (xs : List Float) → unwrap_or (position not_finite xs) (length xs) ≡ first_not_finite xs
+position_is_first xs =
+    let within : position_or_len not_finite xs ≤ length xs = prefix_len-le-length (λ x. not (not_finite x)) xs in
+    rw (first_is xs) (grind (arith, nat_tests))

@@ -89,9 +89,9 @@ module _ (w : ℕ) (h : w % 2 ^ 63 < infinite) where
       go true e = rw (lt-leb (place (neg limit)) (place x) (omega (arith, e, m, low)))
       go false e = rw (le-leb (place (neg limit)) (place x) (omega (arith, e, low)), lt-leb (place x) (place limit) (omega (arith, e, m, high)))
 
-pub unfit-pattern : (w : ℕ) → unfit_word w ≡ ltb limit_word (w % 2 ^ 63)
+pub unfit_word_is : (w : ℕ) → unfit_word w ≡ ltb limit_word (w % 2 ^ 63)
 unfolding unfit_word
-unfit-pattern w = go (dec_lt (w % 2 ^ 63) infinite) (dec_lt limit_word (w % 2 ^ 63))
+unfit_word_is w = go (dec_lt (w % 2 ^ 63) infinite) (dec_lt limit_word (w % 2 ^ 63))
   where
     go : Dec (w % 2 ^ 63 < infinite) → Dec (limit_word < w % 2 ^ 63) → unfit (of_bits binary64 w) ≡ ltb limit_word (w % 2 ^ 63)
     go (yes h) (yes m) = beyond w h (size-grows limit_word (w % 2 ^ 63) m) ∙ sym (lt-ltb limit_word (w % 2 ^ 63) m)

@@ -1,15 +1,17 @@
 -- next_up is the least number above. Patterns counted through zero, from the most negative number up, are ranks: next_up goes to the next rank, and a
 -- number's place grows with its rank. So nothing lies between a number and its next_up.
 use mathlib.Core.Path.{◌≡◌, refl, sym, ap, ◌∙◌, subst}
-use mathlib.Core.Bool.{Bool, true, false, not, cond, true≢false, false≢true}
+use mathlib.Core.Bool.{Bool, true, false, not, cond, true≢false}
 use Prim.Native.Nat.{ℕ, ◌+◌, ◌-◌, ◌%◌, ◌^◌, ◌≤◌, ◌<◌}
 use native.Mathlib.Nat.{lt_of_not-le}
 use native.Mathlib.Omega.{arith}
 use borrow.Author.Tests.{ltb-true, ltb-false, eqb-true, eqb-false, lt-ltb, le-ltb, le-leb, lt-leb}
 use lib.Dec.{T, leb, ltb, eqb}
-use lib.IntN.{ℤ, pos}
-use lib.Ieee.{Float, nan, inf, fin, binary64, is_nan, fits, lt, le, neg, of_bits, to_bits, nan_bits}
-use lib.Ieee.Bits.{of_bits-to_bits, to_bits-of_bits, to_bits-lt, nan_bits_above}
+use lib.IntN.{pos}
+use lib.Ieee.{Float, nan, inf, fin, binary64, is_nan, fits, lt, le, neg, of_bits, to_bits}
+use lib.Ieee.Bits.{of_bits-to_bits, to_bits-of_bits, to_bits-lt}
+use Rattle.std.specs.Float.{next_up as library_next_up, next_up_by_bits}
+use Rattle.std.proofs.lemmas.Bool.Decides.{nat_tests}
 use Rattle.numbers.specs.Binary64.{Finite, not_finite}
 use Rattle.numbers.specs.Exact.{size, negative}
 use Rattle.numbers.specs.Next.{largest, least_positive, next_pattern, next_up}
@@ -50,9 +52,6 @@ module _ (b : ℕ) (word : b < 2 ^ 64) (low : b % 2 ^ 63 < infinite) where
 
   next_word : next_pattern b < 2 ^ 64
   next_word = by_sign (λ n. n < 2 ^ 64) b (λ l. omega arith) (λ e. omega arith) (λ l. omega arith)
-
-  next-most : next_pattern b % 2 ^ 63 ≤ infinite
-  next-most = by_sign (λ n. n % 2 ^ 63 ≤ infinite) b (λ l. omega arith) (λ e. omega arith) (λ l. omega arith)
 
   -- below infinity again but for the largest
   next_low : (b ≡ infinite - 1 → ⊥) → next_pattern b % 2 ^ 63 < infinite
@@ -182,32 +181,23 @@ not-largest x h l e =
     let own : lt x x ≡ true = subst (λ (y : Float). lt x y ≡ true) one l in
     true≢false (sym own ∙ lt-place x x h h ∙ le-ltb (place x) (place x) (omega arith))
 
-no-nan-next : (x : Float) → Finite x → nan_bits binary64 (next_pattern (to_bits binary64 x)) ≡ false
-no-nan-next x h = nan_bits_above binary64 _ ∙ le-ltb _ _ (next-most (to_bits binary64 x) (word x h) (finite-pattern x h))
+-- ---- the library's next_up is the definition's: it asks first whether the size is zero, and then for the sign
+step : (x : Float) (b : ℕ) → b < 2 ^ 64 → b % 2 ^ 63 < infinite → next_up_by_bits binary64 x b ≡ of_bits binary64 (next_pattern b)
+step x b h l =
+    by_sign (λ n. next_up_by_bits binary64 x b ≡ of_bits binary64 n) b
+    (λ k. grind (arith, nat_tests))
+    (λ k. grind (arith, nat_tests))
+    (λ k. grind (arith, nat_tests))
 
-finite : (s : Bool) (m : ℕ) (e : ℤ) → T (fits binary64 (fin s m e)) → Finite (fin s m e)
-unfolding not_finite
-finite s m e h = record { held = h; finite = refl }
-
--- ---- the code's way: below plus infinity a step of the pattern, from there on the number itself
-pub record Steps (x : Float) : Type 0 where
-  pub number : is_nan x ≡ false
-  pub pattern : nan_bits binary64 (next_pattern (to_bits binary64 x)) ≡ false
-  pub next : of_bits binary64 (next_pattern (to_bits binary64 x)) ≡ next_up x
-
-pub below-infinity : (x : Float) → T (fits binary64 x) → lt x (of_bits binary64 infinite) ≡ true → Steps x
-unfolding lt of_bits to_bits is_nan nan_bits next_pattern next_up neg
-below-infinity nan h l = absurd (false≢true l)
-below-infinity (inf true) h l = record { number = refl; pattern = refl; next = refl }
-below-infinity (inf false) h l = absurd (false≢true l)
-below-infinity (fin s m e) h l = record { number = refl; pattern = no-nan-next (fin s m e) (finite s m e h); next = refl }
-
-pub not-below : (x : Float) → lt x (of_bits binary64 infinite) ≡ false → x ≡ next_up x
-unfolding lt of_bits next_up
-not-below nan l = refl
-not-below (inf true) l = absurd (true≢false l)
-not-below (inf false) l = refl
-not-below (fin s m e) l = absurd (true≢false l)
+pub next_up_is : (x : Float) → fits binary64 x ≡ true → next_up x ≡ library_next_up binary64 x
+unfolding next_up of_bits to_bits is_nan neg not_finite
+next_up_is nan h = refl
+next_up_is (inf true) h = refl
+next_up_is (inf false) h = refl
+next_up_is (fin s m e) h =
+    let held : T (fits binary64 (fin s m e)) = subst T (sym h) tt in
+    let f : Finite (fin s m e) = record { held = held; finite = refl } in
+    sym (step (fin s m e) (to_bits binary64 (fin s m e)) (to_bits-lt binary64 (fin s m e) held) (finite-pattern (fin s m e) f))
 
 -- ---- what IEEE 754 says of next_up
 

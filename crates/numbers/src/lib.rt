@@ -3,16 +3,13 @@
 
 ghost use Rattle.std.specs.Prelude.{◌≡◌};
 ghost use Rattle.numbers.specs.Binary64.{unsigned as unsigned_of, not_finite, first_not_finite, minimum, maximum};
-ghost use Rattle.numbers.specs.Next.{next_pattern, next_up};
+ghost use Rattle.numbers.specs.Next.{next_up};
 
 // 2^1023: a number that lies between its negative and it is finite.
 pub const HUGE: f64 = 8.98846567431158e307;
 
 pub mod points;
 pub mod words;
-
-// The pattern of minus zero.
-const MINUS_ZERO: u64 = 0x8000_0000_0000_0000;
 
 #[derive(Clone, Copy)]
 pub struct Coordinate {
@@ -34,6 +31,7 @@ pub struct BoundingBox {
 }
 
 // Minus zero becomes zero.
+#[tactic(auto, unfolding(crate::specs::Binary64::unsigned))]
 pub fn unsigned(x: f64) -> f64
     ensures { result ≡ unsigned_of x }
 {
@@ -43,66 +41,48 @@ pub fn unsigned(x: f64) -> f64
     x
 }
 
+// Two comparisons take less time than the library's is_finite.
+#[tactic(auto, using(crate::proofs::Ends::not_finite_is))]
 pub fn not_finite(x: f64) -> bool
     ensures { result ≡ not_finite x }
 {
-    let infinity = f64::from_bits(0x7ff0_0000_0000_0000);
-    if x < infinity {
-        return x <= -infinity;
-    }
-    true
+    !(f64::NEG_INFINITY < x && x < f64::INFINITY)
 }
 
 // The place of the first number that is not finite; the length where all are.
 pub fn first_not_finite(numbers: &[f64]) -> usize
     ensures { result ≡ first_not_finite numbers.now }
 {
-    let mut i = 0;
-    while i < numbers.len() {
-        if not_finite(numbers[i]) {
-            return i;
-        }
-        i += 1;
-    }
-    i
+    numbers
+        .iter()
+        .position(|x| not_finite(*x))
+        .unwrap_or(numbers.len())
 }
 
+#[tactic(auto, using(crate::proofs::Ends::differs_is))]
 pub fn min(a: f64, b: f64) -> f64
     ensures { result ≡ minimum a b }
 {
-    if a != a {
+    if a.is_nan() {
         return b;
     }
     if b < a { b } else { a }
 }
 
+#[tactic(auto, using(crate::proofs::Ends::differs_is))]
 pub fn max(a: f64, b: f64) -> f64
     ensures { result ≡ maximum a b }
 {
-    if a != a {
+    if a.is_nan() {
         return b;
     }
     if a < b { b } else { a }
 }
 
-fn next_pattern(bits: u64) -> u64
-    ensures { result ≡ next_pattern bits }
-{
-    if bits < MINUS_ZERO {
-        return bits + 1;
-    }
-    if bits == MINUS_ZERO {
-        return 1;
-    }
-    bits - 1
-}
-
 // IEEE 754's next_up: the least number that compares greater.
+#[tactic(auto, using(crate::proofs::Next::next_up_is))]
 pub fn next_up(x: f64) -> f64
     ensures { result ≡ next_up x }
 {
-    if x < f64::from_bits(0x7ff0_0000_0000_0000) {
-        return f64::from_bits(next_pattern(f64::to_bits(x)));
-    }
-    x
+    x.next_up()
 }

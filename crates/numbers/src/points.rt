@@ -5,6 +5,7 @@ ghost use Rattle.numbers.specs.Points.{is_ahead, unsigned_point};
 use crate::{Coordinate, unsigned};
 
 // Earlier by x, then y.
+#[tactic(auto, unfolding(crate::specs::Points::is_ahead))]
 pub fn is_ahead(p: Coordinate, q: Coordinate) -> bool
     ensures { result ≡ is_ahead p q }
 {
@@ -17,6 +18,7 @@ pub fn is_ahead(p: Coordinate, q: Coordinate) -> bool
     p.y < q.y
 }
 
+#[tactic(auto, unfolding(crate::specs::Points::unsigned_point))]
 pub fn unsigned_point(p: Coordinate) -> Coordinate
     ensures { result ≡ unsigned_point p }
 {

@@ -65,14 +65,11 @@ pub fn before(a: Key, b: Key) -> bool
     before_there(a, b)
 }
 
+#[tactic(auto, unfolding(crate::specs::Order::is_zero))]
 pub fn is_zero(sign: Sign) -> bool
     ensures { result ≡ is_zero sign }
 {
-    match sign {
-        Sign::Positive => false,
-        Sign::Zero => true,
-        Sign::Negative => false,
-    }
+    sign == Sign::Zero
 }
 
 // Whether each comes before the other, by one turn.

@@ -1,7 +1,7 @@
 -- A finite number is what its bits say, field by field; a number that is not finite counts as 0.
 use mathlib.Core.Path.{◌≡◌, refl, sym, ap, ◌∙◌, subst}
 use mathlib.Core.Bool.{Bool, true, false, not, cond, true≢false}
-use Prim.Native.Nat.{ℕ, suc, ◌+◌, ◌*◌, ◌^◌, ◌/◌, ◌%◌, ◌<◌, ◌≤◌}
+use Prim.Native.Nat.{ℕ, suc, ◌+◌, ◌-◌, ◌*◌, ◌^◌, ◌/◌, ◌%◌, ◌<◌, ◌≤◌}
 use native.Mathlib.Nat.{mul-div_cancel}
 use native.Mathlib.Omega.{arith}
 use borrow.Author.Tests.{eqb-false}
@@ -45,10 +45,10 @@ bits x = to_bits binary64 x
 abbrev sign : Float → Bool
 sign x = leb (2 ^ 63) (bits x)
 
-module _ (x : Float) (h : T (fits binary64 x)) where
+module _ (x : Float) (h : fits binary64 x ≡ true) where
   by-fields : (f : ℕ) → bits x % 2 ^ 63 / 2 ^ 52 ≡ f → of_fields binary64 (sign x) f (bits x % 2 ^ 52) ≡ x
   unfolding of_bits
-  by-fields f e = subst (λ (n : ℕ). of_fields binary64 (sign x) n (bits x % 2 ^ 52) ≡ x) e (of_bits-to_bits binary64 x h)
+  by-fields f e = subst (λ (n : ℕ). of_fields binary64 (sign x) n (bits x % 2 ^ 52) ≡ x) e (of_bits-to_bits binary64 x (subst T (sym h) tt))
 
   part : (m k : ℕ) → m < 2 ^ 53 → k ≤ 2045 → odd 53 (sign x) m k 1074 ≡ x → PartOf x (sign x) m k
   part m k l n e =
@@ -60,9 +60,11 @@ module _ (x : Float) (h : T (fits binary64 x)) where
   low_field z = part (bits x % 2 ^ 52) 0 (omega arith) (omega arith) (by-fields 0 z)
 
   -- the leading digit is not written
-  pub high-field : (f : ℕ) → not_finite x ≡ false → bits x % 2 ^ 63 / 2 ^ 52 ≡ suc f → PartOf x (sign x) (2 ^ 52 + bits x % 2 ^ 52) f
+  pub high_field : not_finite x ≡ false → 0 < bits x % 2 ^ 63 / 2 ^ 52 → PartOf x (sign x) (2 ^ 52 + bits x % 2 ^ 52) (bits x % 2 ^ 63 / 2 ^ 52 - 1)
   unfolding of_fields
-  high-field f u z =
+  high_field u some =
+      let f = bits x % 2 ^ 63 / 2 ^ 52 - 1 in
+      let z : bits x % 2 ^ 63 / 2 ^ 52 ≡ suc f = omega arith in
       let t = bits x % 2 ^ 52 in
       let e : of_fields binary64 (sign x) (suc f) t ≡ x = by-fields (suc f) z in
       let p = picked (eqb (suc f) 2047) (eqb t 0) (sign x) (odd 53 (sign x) (2 ^ 52 + t) f 1074) (ap not_finite e ∙ u) in

@@ -1,4 +1,4 @@
--- Laws. Differences and Signs are about whole numbers, and the crates above cite them; Margins, Factors and Certain are about the quick sign, the others
+-- Laws. Differences and Signs are about whole numbers, and the crates above cite them; Margins, Factors, Certain and Told are about the quick sign, the others
 -- about bits and the long sum.
 pub mod Differences
 pub mod Signs
@@ -11,3 +11,4 @@ pub mod Orders
 pub mod Margins
 pub mod Factors
 pub mod Certain
+pub mod Told

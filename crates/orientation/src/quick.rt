@@ -12,40 +12,25 @@ const TINY: f64 = 4.450147717014403e-308;
 
 // x and y are each the rounded product of two rounded differences: the exact product for x is above that for y.
 // Below HUGE in size a product is no infinity, so every number that went into it was finite.
+#[tactic(auto, unfolding(crate::specs::Quick::certainly_above))]
 pub fn certainly_above(x: f64, y: f64) -> bool
     ensures { result ≡ certainly_above x y }
 {
-    if y * MARGIN < x {
-        if y < x * MARGIN {
-            if x < HUGE {
-                if -HUGE < y {
-                    if TINY < x {
-                        return true;
-                    }
-                    return y < -TINY;
-                }
-            }
-        }
-    }
-    false
+    y * MARGIN < x && y < x * MARGIN && x < HUGE && -HUGE < y && (TINY < x || y < -TINY)
 }
 
 // u and v are rounded differences: the exact product is zero. A rounded difference is zero only where the exact one is.
+#[tactic(auto, unfolding(crate::specs::Quick::exactly_zero))]
 pub fn exactly_zero(u: f64, v: f64) -> bool
     ensures { result ≡ exactly_zero u v }
 {
-    if u == 0.0 {
-        return true;
-    }
-    v == 0.0
+    u == 0.0 || v == 0.0
 }
 
 // Two points that are one make no turn with any third.
+#[tactic(auto, unfolding(crate::specs::Quick::same_point))]
 pub fn same_point(a: Coordinate, b: Coordinate) -> bool
     ensures { result ≡ same_point a b }
 {
-    if a.x == b.x {
-        return a.y == b.y;
-    }
-    false
+    a.x == b.x && a.y == b.y
 }

@@ -28,15 +28,13 @@ fn add_at(acc: &mut [u64; WORDS], i: usize, w: u64)
     ensures acc_after { value acc.new ≡ value acc.old + w * weight i }
 {
     let mut carry = w;
-    let mut j = i;
-    while j < WORDS {
+    for j in i..WORDS {
         if carry == 0 {
             return;
         }
         let t = acc[j] + carry;
         acc[j] = t % WORD;
         carry = t / WORD;
-        j += 1;
     }
 }
 
@@ -64,6 +62,7 @@ fn spread(y: u64, r: u64) -> Three
 }
 
 // The word x times the three words of y is added at the word q.
+#[tactic(auto, using(crate::proofs::Products::row_sum))]
 fn add_row(acc: &mut [u64; WORDS], q: usize, x: u64, y: Three)
     requires long { Long acc.old }
     requires q_bound { (q + 2 ≤ words) × (x < 2 ^ 32) × SmallThree y.a y.b y.c }
@@ -129,9 +128,7 @@ fn compare(p: &[u64; WORDS], n: &[u64; WORDS]) -> Sign
     requires { Long p.now × Long n.now }
     ensures { result ≡ sign_of (total p.now n.now) }
 {
-    let mut i = WORDS;
-    while 0 < i {
-        i -= 1;
+    for i in (0..WORDS).rev() {
         let x = p[i];
         let y = n[i];
         if y < x {

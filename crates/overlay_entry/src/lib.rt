@@ -10,21 +10,22 @@ ghost use Rattle.overlay_work.specs.Arranged.{overlay_arranged};
 ghost use Rattle.overlay_work.specs.Answer.{number_of};
 ghost use Rattle.overlay_entry.specs.Told as Told;
 
-use arranging::{Outcome, arrange};
-use overlay_work::{Overlaid, overlay, overlay_arranged};
+use arranging::arrange;
+use overlay_work::{overlay, overlay_arranged};
+use refusals::Refusal;
 
 // The answer's number; its value goes into the output that is named for it.
-fn tell(overlaid: Overlaid, length: &mut u64, place: &mut u64) -> u64
+fn tell(overlaid: Result<usize, Refusal>, length: &mut u64, place: &mut u64) -> u64
     ensures value { result ≡ number_of overlaid }
     ensures length_after { length.new ≡ Told.length overlaid length.old }
     ensures place_after { place.new ≡ Told.place overlaid place.old }
 {
     match overlaid {
-        Overlaid::Refused(why) => {
+        Err(why) => {
             *place = why.place;
-            why.number
+            u64::from(why.reason)
         }
-        Overlaid::Printed(n) => {
+        Ok(n) => {
             *length = n as u64;
             0
         }
@@ -64,10 +65,10 @@ pub fn bezorika_arrange(bytes: &mut [u8], place: &mut u64) -> u64
     ensures place_after { place.new ≡ Told.arranged_place (Arrange.arrange bytes.old).answer place.old }
 {
     match arrange(bytes) {
-        Outcome::Done => 0,
-        Outcome::Refused(refusal) => {
+        Ok(()) => 0,
+        Err(refusal) => {
             *place = refusal.place;
-            refusal.number
+            u64::from(refusal.reason)
         }
     }
 }

@@ -56,10 +56,10 @@ module _ (s s' : Sheet) (h : Permuted s s') (f : Fits s) (u : Untied s) where
   unfolding overlay
   same_bytes t out e = ap (λ (w : Work). put w out) (text-only same-work t e)
 
-  number-only : {v w : Work} → SameWork v w → (x : Refusal) → v ≡ Stopped x → (y : Refusal) × (w ≡ Stopped y) × (y.number ≡ x.number)
+  number-only : {v w : Work} → SameWork v w → (x : Refusal) → v ≡ Stopped x → (y : Refusal) × (w ≡ Stopped y) × (y.reason ≡ x.reason)
   number-only same_text x e = absurd (let z : ◌≡◌ {A = ℕ} 0 1 = cc in omega arith)
-  number-only (same_number {x = a} {y = b} q) x e = let z : a ≡ x = cc in (b, refl, q ∙ ap (λ (r : Refusal). r.number) z)
+  number-only (same_number {x = a} {y = b} q) x e = let z : a ≡ x = cc in (b, refl, q ∙ ap (λ (r : Refusal). r.reason) z)
 
   -- refused by the same number
-  pub same-refusal : (x : Refusal) → work (written s) ≡ Stopped x → (y : Refusal) × (work (written s') ≡ Stopped y) × (y.number ≡ x.number)
+  pub same-refusal : (x : Refusal) → work (written s) ≡ Stopped x → (y : Refusal) × (work (written s') ≡ Stopped y) × (y.reason ≡ x.reason)
   same-refusal x e = number-only same-work x e

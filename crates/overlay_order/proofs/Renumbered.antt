@@ -1,6 +1,7 @@
 -- Connection of the renamed list, in the same order, of a pool under another numbering tells the same text, or is refused by the same number: keys
 -- hold no record number, so the stable sort takes the renamed records in the same order, whatever their directions.
 use mathlib.Core.Path.{◌≡◌, refl, sym, ap, ap₂, ◌∙◌, subst}
+use Rattle.refusals.specs.Refusals.{Verdict}
 use mathlib.Core.List.{List, map}
 use Prim.Native.Nat.{ℕ}
 use lib.ListN.{length}
@@ -11,7 +12,6 @@ use Rattle.events.specs.Event.{Event}
 use Rattle.events.specs.Binary64.{at_binary64}
 use Rattle.events.specs.Pool.{Pool, size, row_at, stored}
 use Rattle.order.specs.Order.{before}
-use Rattle.checks.specs.declared.Check.{Check}
 use Rattle.checks.specs.Sound.{Sound}
 use Rattle.contours.specs.Result.{in_result, results, earlier, ordered}
 use Rattle.contours.specs.Table.{Row, row_of, table}
@@ -72,11 +72,11 @@ module _ (ρ : ℕ → ℕ) (p p' : Pool) (rn : RenumberedPool ρ p p') (list : 
   unfolding after_connection connected_to after told
   text-alike f g e = subst (λ (os : List (Outline Point)). SameWork (Text (text f.outlines)) (Text (text os))) (sym e) same_text
 
-  stopped_alike : (x y : Refusal) (f g : Finished Point Pool) → y.number ≡ x.number → SameWork (after_connection (after (stopped x f) p l)) (after_connection (after (stopped y g) p' l))
+  stopped_alike : (x y : Refusal) (f g : Finished Point Pool) → y.reason ≡ x.reason → SameWork (after_connection (after (stopped x f) p l)) (after_connection (after (stopped y g) p' l))
   unfolding after_connection connected_to after told
   stopped_alike x y f g e = same_number e
 
-  refused_alike : (x y : Refusal) → y.number ≡ x.number → SameWork (after_connection (after (refused x) p l)) (after_connection (after (refused y) p' l))
+  refused_alike : (x y : Refusal) → y.reason ≡ x.reason → SameWork (after_connection (after (refused x) p l)) (after_connection (after (refused y) p' l))
   unfolding after_connection connected_to after told
   refused_alike x y e = same_number e
 
@@ -101,7 +101,7 @@ module _ (ρ : ℕ → ℕ) (p p' : Pool) (rn : RenumberedPool ρ p p') (list : 
   unfolding size
   one_size = rw (rn.points, rn.marks)
 
-  checks-alike : (a a' : Check) → accept at_binary64 (row_at p) (size p) (length p.points) (length p.marks) list (room_of l) ≡ a → SameNumber a a'
+  checks-alike : (a a' : Verdict) → accept at_binary64 (row_at p) (size p) (length p.points) (length p.marks) list (room_of l) ≡ a → SameNumber a a'
       → SameWork (after_connection (after (after_checks at_binary64 stored p list a) p l)) (after_connection (after (after_checks at_binary64 stored p' (map ρ list) a') p' l))
   unfolding after_checks
   checks-alike a a' e both-pass =

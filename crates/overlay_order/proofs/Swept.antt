@@ -1,4 +1,6 @@
 -- Loaded in another order, with no tie at any taking, the sweep takes the renamed events in the same order: the same text is told, or the same number.
+use Rattle.std.proofs.Common.{Err, Ok}
+use Rattle.refusals.specs.Refusals.{Verdict}
 use mathlib.Core.Path.{◌≡◌, refl, sym, ap, ap₂, ◌∙◌}
 use mathlib.Core.Bool.{false}
 use mathlib.Core.List.{List, map}
@@ -12,13 +14,8 @@ use Rattle.events.specs.Binary64.{at_binary64, in_mode}
 use Rattle.events.specs.Pool.{Pool, size, stored}
 use Rattle.events.proofs.Stored.{pool-stored}
 use Rattle.class.specs.declared.Operation.{Operation}
-use Rattle.checks.specs.declared.Check.{Check}
-use Rattle.checks.specs.declared.Check.TheVariants.{Passed, Refused as Struck}
-use Rattle.loading.specs.declared.Loaded.TheVariants as Loading
 use Rattle.loading.specs.OnPool.{load}
 use Rattle.sweep.specs.declared.Swept.{Swept}
-use Rattle.sweep.specs.declared.Outcome as Sweep
-use Rattle.sweep.specs.declared.Outcome.TheVariants as Sweeping
 use Rattle.sweep.specs.OnPool.{accept, after_run, as_lent, after_checks, subdivide_pool}
 use Rattle.sweep.specs.OnPool as Sweeps
 use Rattle.sweep.proofs.Ends.{counted}
@@ -39,19 +36,19 @@ module _ (op : Operation) (p : Pool) (n : ℕ) (taken : List ℕ) where
   abbrev swept : Sweeps.After
   swept = subdivide_pool op ordered p n taken
 
-  size-kept : (x : Check) → accept p n taken ≡ x → stored.size swept.pool ≡ stored.size p
+  size-kept : (x : Verdict) → accept p n taken ≡ x → stored.size swept.pool ≡ stored.size p
   unfolding subdivide_pool after_checks after_run as_lent
-  size-kept Passed h = rw h (counted at_binary64 stored pool-stored (in_mode ordered) op p n).grows.size
-  size-kept (Struck r) h = rw h
+  size-kept (Ok _) h = rw h (counted at_binary64 stored pool-stored (in_mode ordered) op p n).grows.size
+  size-kept (Err r) h = rw h
 
-  fits : swept.answer.outcome ≡ Sweeping.Done → swept.answer.used ≤ stored.size swept.pool
+  fits : swept.answer.outcome ≡ Ok tt → swept.answer.used ≤ stored.size swept.pool
   fits d = omega (arith, in_use op p n taken swept.answer swept.pool swept.taken refl d, size-kept (accept p n taken) refl)
 
-  points-fit : swept.answer.outcome ≡ Sweeping.Done → swept.answer.used ≤ length swept.pool.points
+  points-fit : swept.answer.outcome ≡ Ok tt → swept.answer.used ≤ length swept.pool.points
   unfolding stored size
   points-fit d = let u = fits d in omega (arith, u)
 
-  marks-fit : swept.answer.outcome ≡ Sweeping.Done → swept.answer.used ≤ length swept.pool.marks
+  marks-fit : swept.answer.outcome ≡ Ok tt → swept.answer.used ≤ length swept.pool.marks
   unfolding stored size
   marks-fit d = let u = fits d in omega (arith, u)
 
@@ -89,26 +86,26 @@ module _ (op : Operation) (n : ℕ) (ρ : Renaming n) (p p' : Pool) (lent : List
       let k : a.answer.taken ≡ length (map ρ.to h.events) = omega (arith, h.counted, length-map h.events ρ.to) in
       ap₂ take same_count h.told' ∙ first-are lent (map ρ.to h.events) a.answer.taken k room
 
-  renamed-done : (o : Sweep.Outcome) → o ≡ Sweeping.Done → rename_outcome ρ.to o ≡ Sweeping.Done
+  renamed-done : (o : Verdict) → o ≡ Ok tt → rename_outcome ρ.to o ≡ Ok tt
   unfolding rename_outcome
   renamed-done o e = rw e
 
-  done-alike : a.answer.outcome ≡ Sweeping.Done
+  done-alike : a.answer.outcome ≡ Ok tt
       → SameWork (overlay_taken (first_places a.answer.used a.pool) (take a.answer.taken a.taken)) (overlay_taken (first_places a'.answer.used a'.pool) (take a'.answer.taken a'.taken))
   unfolding overlay_taken
   done-alike d =
-      let d' : a'.answer.outcome ≡ Sweeping.Done = same_end ∙ renamed-done a.answer.outcome d in
+      let d' : a'.answer.outcome ≡ Ok tt = same_end ∙ renamed-done a.answer.outcome d in
       let n-in : n ≤ a.answer.used = omega (arith, used-counted op ordered p n lent) in
       let p₁ : a.answer.used ≤ length a'.pool.points = omega (arith, same-used, points-fit op p' n lent d') in
       let m₁ : a.answer.used ≤ length a'.pool.marks = omega (arith, same-used, marks-fit op p' n lent d') in
       rw (listed, listed', same-used)
       (connected_alike ρ.to _ _ (renumbered n ρ a.answer.used n-in a.pool a'.pool (points-fit op p n lent d) (marks-fit op p n lent d) p₁ m₁ h.records) h.events _)
 
-  outcomes : (o : Sweep.Outcome) → a.answer.outcome ≡ o
+  outcomes : (o : Verdict) → a.answer.outcome ≡ o
       → SameWork (swept_to o (first_places a.answer.used a.pool) (take a.answer.taken a.taken)) (swept_to (rename_outcome ρ.to o) (first_places a'.answer.used a'.pool) (take a'.answer.taken a'.taken))
   unfolding swept_to rename_outcome rename_refusal
-  outcomes Sweeping.Done d = done-alike d
-  outcomes (Sweeping.Refused r) d = same_number refl
+  outcomes (Ok _) d = done-alike d
+  outcomes (Err r) d = same_number refl
 
   pub swept-alike : SameWork (after_sweep a) (after_sweep a')
   unfolding after_sweep
@@ -127,7 +124,7 @@ unfolding no_points none_taken
 all-long = (refl, refl)
 
 module _ (op : Operation) (ends : List (List ℕ)) (labels : List (List ℕ)) (ends' : List (List ℕ)) (labels' : List (List ℕ)) (o : Reordered ends labels ends' labels')
-    (n : ℕ) (d : (load ends labels start).answer ≡ Loading.Done n) (u : (subdivide_pool op ordered (load ends labels start).pool n none).answer.tied ≡ false) where
+    (n : ℕ) (d : (load ends labels start).answer ≡ Ok n) (u : (subdivide_pool op ordered (load ends labels start).pool n none).answer.tied ≡ false) where
   free : OrderFreeCalls op ordered n ends labels start none ends' labels' start none
   free =
       let k : length none ≡ length start.points = all-long.1 ∙ sym all-long.0 in

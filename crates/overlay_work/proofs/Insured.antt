@@ -1,7 +1,9 @@
 -- A printed map is the text of the contours in which every wall of the swept sheet is walked once: each step of the work handed on what the next one took.
+use Rattle.refusals.specs.Refusals.{Verdict}
+use Rattle.std.proofs.Common.{Err, Ok, Result, Option}
+use Rattle.refusals.specs.declared.Reason.TheVariants as Reason
 use mathlib.Core.Path.{◌≡◌, refl, sym, ◌∙◌, subst}
 use mathlib.Core.Bool.{Bool, true, false, cond}
-use mathlib.Core.Option.{Option}
 use mathlib.Core.List.{List, Memᴰ}
 use Prim.Native.Nat.{ℕ, min, ◌<◌}
 use native.Mathlib.Omega.{arith}
@@ -16,14 +18,8 @@ use Rattle.crossing.specs.Modes.{ordered}
 use Rattle.events.specs.Binary64.{at_binary64}
 use Rattle.class.specs.declared.Operation.{Operation}
 use Rattle.class.specs.declared.Operation.TheVariants.{Intersection, Difference, Union, Xor}
-use Rattle.loading.specs.declared.Loaded.{Loaded}
-use Rattle.loading.specs.declared.Loaded.TheVariants as Loading
-use Rattle.sweep.specs.declared.Outcome as Sweep
-use Rattle.sweep.specs.declared.Outcome.TheVariants as Sweeping
 use Rattle.sweep.specs.Bounds.{is_past}
 use Rattle.sweep.proofs.Answers.{all_listed}
-use Rattle.connection.specs.declared.Outcome as Connection
-use Rattle.connection.specs.declared.Outcome.TheVariants as Connecting
 use Rattle.connection.specs.Connection.{Lent, connect_edges}
 use Rattle.connection.specs.Connection as Connects
 use Rattle.connection.specs.Demand.{Outlined}
@@ -33,7 +29,6 @@ use Rattle.sheet.specs.Reading.{Reading, Accepted, read_sheet}
 use Rattle.sheet.specs.Reading as R
 use Rattle.printing.specs.Printing.{printed}
 use Rattle.printing.specs.Put.{most_places}
-use Rattle.overlay_work.specs.declared.Overlaid.TheVariants.{Printed, Refused}
 use Rattle.overlay_work.specs.Overlay.{Work, Text, Stopped, left, put, wanted, pool_places, contour_places, none_taken, empty_outlines, connected_to, after_connection, overlay_taken, swept_to, after_sweep, loaded_to, after_loading, overlay_edges_in, overlay_edges, overlay_sheet, after_reading, work, overlay}
 use Rattle.overlay_work.specs.Insured.{loaded_sheet, swept_sheet, Run, swept, swept_pool, events_taken, NeverEarly, Insured}
 use Rattle.overlay_work.proofs.Texts.{text-is}
@@ -76,28 +71,28 @@ module _ {bytes : List ℕ} (r : Run bytes) (text : List ℕ) where
   unfolding overlay_taken after_connection connected_to
   of-taken e = go connected.answer.outcome refl e
     where
-      go : (y : Connection.Outcome) → connected.answer.outcome ≡ y → connected_to y connected.answer.contours connected.outlines ≡ Text text → Insured bytes text
-      go Connecting.Done d q = of-outlined ((demand (swept_pool r) (events_taken r) arrays).outlined d) e
-      go (Connecting.Refused x) d q = absurd (no_text x text q)
+      go : (y : Verdict) → connected.answer.outcome ≡ y → connected_to y connected.answer.contours connected.outlines ≡ Text text → Insured bytes text
+      go (Ok _) d q = of-outlined ((demand (swept_pool r) (events_taken r) arrays).outlined d) e
+      go (Err x) d q = absurd (no_text x text q)
 
 -- ---- the steps before it
 
 module _ (bytes : List ℕ) (s : Sheet) (read : read_sheet bytes ≡ Accepted s) (text : List ℕ) where
-  of-swept : (n : ℕ) → (loaded_sheet s).answer ≡ Loading.Done n → after_sweep (swept_sheet s n) ≡ Text text → Insured bytes text
+  of-swept : (n : ℕ) → (loaded_sheet s).answer ≡ Ok n → after_sweep (swept_sheet s n) ≡ Text text → Insured bytes text
   unfolding after_sweep swept_to
   of-swept n l e = go (swept_sheet s n).answer.outcome refl e
     where
-      go : (y : Sweep.Outcome) → (swept_sheet s n).answer.outcome ≡ y → after_sweep (swept_sheet s n) ≡ Text text → Insured bytes text
-      go Sweeping.Done d e = of-taken (record { sheet = s; reads = read; loaded = n; loads = l; sweeps = d }) text (rw d at e)
-      go (Sweeping.Refused x) d e = absurd (no_text x text (rw d at e))
+      go : (y : Verdict) → (swept_sheet s n).answer.outcome ≡ y → after_sweep (swept_sheet s n) ≡ Text text → Insured bytes text
+      go (Ok _) d e = of-taken (record { sheet = s; reads = read; loaded = n; loads = l; sweeps = d }) text (rw d at e)
+      go (Err x) d e = absurd (no_text x text (rw d at e))
 
   of-sheet : overlay_sheet s ≡ Text text → Insured bytes text
   unfolding overlay_sheet overlay_edges overlay_edges_in after_loading loaded_to
   of-sheet e = go (loaded_sheet s).answer refl e
     where
-      go : (y : Loaded) → (loaded_sheet s).answer ≡ y → loaded_to s.operation (none_taken pool_places) y (loaded_sheet s).pool ≡ Text text → Insured bytes text
-      go (Loading.Done n) l e = of-swept n l e
-      go (Loading.Refused x) l e = absurd (no_text x text e)
+      go : (y : Result ℕ Refusal) → (loaded_sheet s).answer ≡ y → loaded_to s.operation (none_taken pool_places) y (loaded_sheet s).pool ≡ Text text → Insured bytes text
+      go (Ok n) l e = of-swept n l e
+      go (Err x) l e = absurd (no_text x text e)
 
 insured-work : (bytes text : List ℕ) → work bytes ≡ Text text → Insured bytes text
 unfolding work after_reading
@@ -105,21 +100,21 @@ insured-work bytes text e = go (read_sheet bytes) refl e
   where
     go : (y : Reading) → read_sheet bytes ≡ y → after_reading y ≡ Text text → Insured bytes text
     go (Accepted s) r e = of-sheet bytes s r text e
-    go (R.Refused number line) r e = absurd (no_text _ text e)
+    go (R.Refused reason line) r e = absurd (no_text _ text e)
 
 -- ---- the call
 
 -- The n bytes that a call prints are the map of the sheet, as an insurer asks.
-pub insured : (bytes out : List ℕ) (n : ℕ) → (overlay bytes out).answer ≡ Printed n → Insured bytes (take n (overlay bytes out).out)
+pub insured : (bytes out : List ℕ) (n : ℕ) → (overlay bytes out).answer ≡ Ok n → Insured bytes (take n (overlay bytes out).out)
 unfolding overlay put wanted
 insured bytes out n e = go (work bytes) refl e
   where
-    go : (w : Work) → work bytes ≡ w → (put w out).answer ≡ Printed n → Insured bytes (take n (put w out).out)
+    go : (w : Work) → work bytes ≡ w → (put w out).answer ≡ Ok n → Insured bytes (take n (put w out).out)
     go (Text t) q e = fitted (ltb (length out) (min (length t) most_places)) refl e
       where
         fitted : (b : Bool) → ltb (length out) (min (length t) most_places) ≡ b
-            → let x = cond b (left (Refused (record { number = 5; place = min (length t) most_places })) out) (left (Printed (min (length t) most_places)) (sets out 0 t)) in
-            x.answer ≡ Printed n → Insured bytes (take n x.out)
+            → let x = cond b (left (Err (record { reason = Reason.Room; place = min (length t) most_places })) out) (left (Ok (min (length t) most_places)) (sets out 0 t)) in
+            x.answer ≡ Ok n → Insured bytes (take n x.out)
         fitted true f e = let z : ◌≡◌ {A = ℕ} 1 0 = cc in absurd (omega arith)
         fitted false f e =
             let z : min (length t) most_places ≡ n = cc in

@@ -1,10 +1,12 @@
 -- The work's arrays and the program's bytes are always enough, so that 5 is never told. At most 1,024 events are taken; that makes at most 512 result
 -- edges, so 512 contours, 512 holes and 1,024 corners, and a text of at most 60,942 bytes.
+use Rattle.std.proofs.Common.{Err, Ok, Result, Some}
+use Rattle.refusals.specs.declared.Reason.TheVariants as Reason
+use Rattle.refusals.specs.Refusals.{Verdict}
 use mathlib.Core.Path.{◌≡◌, refl, ap}
 use mathlib.Core.Logic.{◌≢◌}
 use mathlib.Core.Bool.{Bool, true, false, cond}
 use mathlib.Core.List.{List}
-use mathlib.Core.Option.{some}
 use Prim.Native.Nat.{ℕ, min, ◌≤◌}
 use native.Mathlib.Omega.{arith}
 use borrow.Author.Tests.{le-ltb}
@@ -17,15 +19,9 @@ use Rattle.crossing.specs.Modes as Modes
 use Rattle.events.specs.Binary64.{at_binary64, in_mode}
 use Rattle.events.specs.Pool.{Pool, stored}
 use Rattle.class.specs.declared.Operation.{Operation}
-use Rattle.checks.specs.declared.Check.{Check}
-use Rattle.checks.specs.declared.Check.TheVariants.{Passed, Refused as Struck}
 use Rattle.sheet.specs.Reading.{Reading, Accepted, read_sheet}
 use Rattle.sheet.specs.Reading as R
-use Rattle.loading.specs.declared.Loaded.{Loaded}
-use Rattle.loading.specs.declared.Loaded.TheVariants as Loading
 use Rattle.loading.specs.OnPool as Loads
-use Rattle.sweep.specs.declared.Outcome as Sweep
-use Rattle.sweep.specs.declared.Outcome.TheVariants as Sweeping
 use Rattle.sweep.specs.Run.{subdivide}
 use Rattle.sweep.specs.OnPool as Sweeps
 use Rattle.sweep.specs.OnPool.{accept, after_run, as_lent, after_checks, subdivide_pool}
@@ -38,7 +34,6 @@ use Rattle.contours.proofs.AtBinary64.{enough, numbers, always-room}
 use Rattle.connection.specs.Connection.{Lent, room_of, told, after, connect_edges}
 use Rattle.printing.specs.Put.{most_places}
 use Rattle.printing.proofs.Lengths.{printed-short, refusal-short}
-use Rattle.overlay_work.specs.declared.Overlaid.TheVariants.{Printed, Refused}
 use Rattle.overlay_work.specs.Overlay.{Work, Text, Stopped, After, left, put, wanted, pool_places, contour_places, none_taken, empty_outlines, connected_to, after_connection, overlay_taken, swept_to, after_sweep, loaded_to, after_loading, overlay_edges_in, overlay_edges, overlay_sheet, after_reading, work, overlay, answer}
 use Rattle.overlay_work.specs.Overlay as Spec
 use Rattle.overlay_work.proofs.Empty.{points-room, contours-room, holes_room, taken-room}
@@ -52,7 +47,7 @@ longest_text = 60942
 -- a text within the bound, or a refusal other than 5
 abbrev Fair : Work → Type 0
 Fair (Text t) = length t ≤ longest_text
-Fair (Stopped r) = r.number ≢ 5
+Fair (Stopped r) = r.reason ≢ Reason.Room
 
 -- ---- connection
 
@@ -66,7 +61,7 @@ module _ (p : Pool) (list : List ℕ) (few : length list ≤ pool_places) where
   fair-text : (f : Finished Point Pool) → connect_pool p list (room_of arrays) ≡ connected f → Fair (after_connection (after (connected f) p arrays))
   unfolding given
   fair-text f e =
-      let s : given (connect_pool p list (room_of arrays)) ≡ some f = ap given e in
+      let s : given (connect_pool p list (room_of arrays)) ≡ Some f = ap given e in
       let h = enough p list (room_of arrays) f s in
       let a = h.0 in
       let b = h.1 in
@@ -89,9 +84,9 @@ taken_places : (o : Operation) (p : Pool) (n : ℕ) (l : List ℕ) → length (s
 unfolding subdivide_pool after_checks after_run as_lent
 taken_places o p n l = go (accept p n l)
   where
-    go : (x : Check) → length (after_checks x o Modes.ordered p n l).taken ≡ length l
-    go Passed = length-sets l 0 (subdivide at_binary64 stored (in_mode Modes.ordered) o p n).taken
-    go (Struck r) = refl
+    go : (x : Verdict) → length (after_checks x o Modes.ordered p n l).taken ≡ length l
+    go (Ok _) = length-sets l 0 (subdivide at_binary64 stored (in_mode Modes.ordered) o p n).taken
+    go (Err r) = refl
 
 fair-swept : (o : Operation) (p : Pool) (n : ℕ) → Fair (after_sweep (subdivide_pool o Modes.ordered p n (none_taken pool_places)))
 unfolding after_sweep swept_to
@@ -100,17 +95,17 @@ fair-swept o p n = go x.answer.outcome refl
     x : Sweeps.After
     x = subdivide_pool o Modes.ordered p n (none_taken pool_places)
 
-    go : (y : Sweep.Outcome) → x.answer.outcome ≡ y → Fair (swept_to y (first_places x.answer.used x.pool) (take x.answer.taken x.taken))
-    go Sweeping.Done e = fair-taken _ _ (omega (arith, length-take x.answer.taken x.taken, taken_places o p n (none_taken pool_places), taken-room pool_places))
-    go (Sweeping.Refused r) e = sweep-by o p n (none_taken pool_places) r e
+    go : (y : Verdict) → x.answer.outcome ≡ y → Fair (swept_to y (first_places x.answer.used x.pool) (take x.answer.taken x.taken))
+    go (Ok _) e = fair-taken _ _ (omega (arith, length-take x.answer.taken x.taken, taken_places o p n (none_taken pool_places), taken-room pool_places))
+    go (Err r) e = sweep-by o p n (none_taken pool_places) r e
 
 fair-loaded : (o : Operation) (ends : List (List ℕ)) (labels : List (List ℕ)) (p : Pool) → Fair (after_loading o (none_taken pool_places) (Loads.load ends labels p))
 unfolding after_loading loaded_to
 fair-loaded o ends labels p = go (Loads.load ends labels p).answer refl
   where
-    go : (y : Loaded) → (Loads.load ends labels p).answer ≡ y → Fair (loaded_to o (none_taken pool_places) y (Loads.load ends labels p).pool)
-    go (Loading.Done n) e = fair-swept o _ n
-    go (Loading.Refused r) e = load-by ends labels p r e
+    go : (y : Result ℕ Refusal) → (Loads.load ends labels p).answer ≡ y → Fair (loaded_to o (none_taken pool_places) y (Loads.load ends labels p).pool)
+    go (Ok n) e = fair-swept o _ n
+    go (Err r) e = load-by ends labels p r e
 
 fair : (bytes : List ℕ) → Fair (work bytes)
 unfolding work after_reading overlay_sheet overlay_edges overlay_edges_in
@@ -118,7 +113,7 @@ fair bytes = go (read_sheet bytes) (read_by bytes)
   where
     go : (r : Reading) → ReadBy r → Fair (after_reading r)
     go (Accepted s) h = fair-loaded s.operation _ _ _
-    go (R.Refused number line) h = h
+    go (R.Refused reason line) h = h
 
 -- no text of a sheet has more bytes
 pub text-short : (bytes t : List ℕ) → work bytes ≡ Text t → length t ≤ longest_text
@@ -126,16 +121,16 @@ text-short bytes t e = rw e at (fair bytes)
 
 -- ---- the whole
 
-fits : (w : Work) (out : List ℕ) → Fair w → longest_text ≤ length out → (r : Refusal) → (put w out).answer ≡ Refused r → r.number ≢ 5
+fits : (w : Work) (out : List ℕ) → Fair w → longest_text ≤ length out → (r : Refusal) → (put w out).answer ≡ Err r → r.reason ≢ Reason.Room
 unfolding put wanted
 fits (Text t) out h k r e =
     let short : ltb (length out) (min (length t) most_places) ≡ false = le-ltb (length out) (min (length t) most_places) (omega arith) in
-    let there : Printed (min (length t) most_places) ≡ Refused r = rw short at e in
+    let there : Ok (min (length t) most_places) ≡ Err r = rw short at e in
     let z : ◌≡◌ {A = ℕ} 0 1 = cc in absurd (omega arith)
 fits (Stopped q) out h k r e = let z : q ≡ r = cc in rw z at h
 
 -- With 60,942 bytes lent, no sheet is refused by 5.
-pub never-5 : (bytes out : List ℕ) → longest_text ≤ length out → (r : Refusal) → (overlay bytes out).answer ≡ Refused r → r.number ≢ 5
+pub never-5 : (bytes out : List ℕ) → longest_text ≤ length out → (r : Refusal) → (overlay bytes out).answer ≡ Err r → r.reason ≢ Reason.Room
 unfolding overlay
 never-5 bytes out k r e = fits (work bytes) out (fair bytes) k r e
 
@@ -146,8 +141,8 @@ told-short (Text t) out h = go (ltb (length out) (min (length t) most_places))
     n : ℕ
     n = min (length t) most_places
 
-    go : (b : Bool) → let x = cond b (left (Refused (record { number = 5; place = n })) out) (left (Printed n) (sets out 0 t)) in (Spec.told x.answer x.out).bytes ≤ longest_text
-    go true = omega (arith, refusal-short (record { number = 5; place = n }))
+    go : (b : Bool) → let x = cond b (left (Err (record { reason = Reason.Room; place = n })) out) (left (Ok n) (sets out 0 t)) in (Spec.told x.answer x.out).bytes ≤ longest_text
+    go true = omega (arith, refusal-short (record { reason = Reason.Room; place = n }))
     go false = omega arith
 told-short (Stopped r) out h = omega (arith, refusal-short r)
 

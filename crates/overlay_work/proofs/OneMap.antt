@@ -18,7 +18,7 @@ use Rattle.overlay_work.proofs.Reading.{Fitting}
 pub arranged-fits : (b : List ℕ) (r : Reading) → read_sheet b ≡ r → Fitting (arranged_reading r)
 unfolding arranged_reading
 arranged-fits b (Accepted s) e = Sheets.arranged-fits s (describes b s e).1
-arranged-fits b (R.Refused number line) e = tt
+arranged-fits b (R.Refused reason line) e = tt
 
 pub arranged-work : (b out : List ℕ) (x : After) → x ≡ put (after_reading (arranged_reading (read_sheet b))) out → x ≡ overlay_arranged b out
 unfolding overlay_arranged overlay work

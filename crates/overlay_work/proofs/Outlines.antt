@@ -1,5 +1,8 @@
 -- What connection gives and its text do not depend on how long the lent arrays are, if they have a place for each listed event and half as many for
 -- contours and for holes: then 5 is not told, and the text is that of the outlines.
+use Rattle.std.proofs.Common.{Err, Ok}
+use Rattle.refusals.specs.declared.Reason.TheVariants as Reason
+use Rattle.refusals.specs.Refusals.{Verdict}
 use mathlib.Core.Path.{◌≡◌, refl, sym, ap, ◌∙◌}
 use mathlib.Core.Bool.{Bool, true, false, cond}
 use mathlib.Core.List.{List}
@@ -10,8 +13,6 @@ use lib.ListN.{length}
 use Rattle.numbers.specs.declared.Point.{Point}
 use Rattle.events.specs.Binary64.{at_binary64}
 use Rattle.events.specs.Pool.{Pool, stored}
-use Rattle.checks.specs.declared.Check.{Check}
-use Rattle.checks.specs.declared.Check.TheVariants.{Passed, Refused as Struck}
 use Rattle.checks.specs.Checks.{and_then}
 use Rattle.contours.specs.Accept.{Room, room_for, roomy, accept}
 use Rattle.contours.specs.Connect.{Finished, refused, stopped, connected, given, records, after_checks, connect}
@@ -28,49 +29,49 @@ use Rattle.overlay_work.proofs.Texts.{text-is}
 
 -- ---- the checks: the last of them alone tells 5, and nothing else
 
-abbrev ByFive : Check → Type 0
-ByFive Passed = Unit {0}
-ByFive (Struck r) = r.number ≡ 5
+abbrev ByFive : Verdict → Type 0
+ByFive (Ok _) = Unit {0}
+ByFive (Err r) = r.reason ≡ Reason.Room
 
 room_by : (wanted places : ℕ) → ByFive (room_for wanted places)
 unfolding room_for
 room_by wanted places = go (ltb places wanted)
   where
-    go : (b : Bool) → ByFive (cond b (Struck (record { number = 5; place = wanted })) Passed)
+    go : (b : Bool) → ByFive (cond b (Err (record { reason = Reason.Room; place = wanted })) (Ok tt))
     go true = refl
     go false = tt
 
-both-five : (a b : Check) → ByFive a → ByFive b → ByFive (and_then a b)
+both-five : (a b : Verdict) → ByFive a → ByFive b → ByFive (and_then a b)
 unfolding and_then
-both-five Passed b h k = k
-both-five (Struck r) b h k = h
+both-five (Ok _) b h k = k
+both-five (Err r) b h k = h
 
 roomy-by : (room : Room) (events edges : ℕ) → ByFive (roomy room events edges)
 unfolding roomy
 roomy-by room events edges =
     both-five _ _ (room_by events room.points) (both-five _ _ (room_by edges room.contours) (room_by edges room.holes))
 
-both-pass : (a b : Check) → ByFive a → ByFive b → CheckBy a → CheckBy b → a ≡ b
-both-pass Passed Passed h k n m = refl
-both-pass Passed (Struck r) h k n m = absurd (m k)
-both-pass (Struck r) b h k n m = absurd (n h)
+both-pass : (a b : Verdict) → ByFive a → ByFive b → CheckBy a → CheckBy b → a ≡ b
+both-pass (Ok _) (Ok _) h k n m = refl
+both-pass (Ok _) (Err r) h k n m = absurd (m k)
+both-pass (Err r) b h k n m = absurd (n h)
 
-then_same : (a b b' : Check) → (CheckBy b → CheckBy b' → b ≡ b') → CheckBy (and_then a b) → CheckBy (and_then a b') → and_then a b ≡ and_then a b'
+then_same : (a b b' : Verdict) → (CheckBy b → CheckBy b' → b ≡ b') → CheckBy (and_then a b) → CheckBy (and_then a b') → and_then a b ≡ and_then a b'
 unfolding and_then
-then_same Passed b b' k n m = k n m
-then_same (Struck r) b b' k n m = refl
+then_same (Ok _) b b' k n m = k n m
+then_same (Err r) b b' k n m = refl
 
 module _ (p : Pool) (list : List ℕ) where
-  abbrev checked : Room → Check
+  abbrev checked : Room → Verdict
   checked room = accept at_binary64 (records at_binary64 stored p) (stored.size p) (length p.points) (length p.marks) list room
 
   not_five : (room : Room) → Roomy list room → CheckBy (checked room)
   unfolding connect_pool connect after_checks
   not_five room h = go (checked room) refl
     where
-      go : (x : Check) → checked room ≡ x → CheckBy x
-      go Passed e = tt
-      go (Struck r) e = always-room p list room h r (ap (after_checks at_binary64 stored p list) e)
+      go : (x : Verdict) → checked room ≡ x → CheckBy x
+      go (Ok _) e = tt
+      go (Err r) e = always-room p list room h r (ap (after_checks at_binary64 stored p list) e)
 
   same_check : (room room' : Room) → CheckBy (checked room) → CheckBy (checked room') → checked room ≡ checked room'
   unfolding accept

@@ -1,4 +1,5 @@
 -- What was read is in the first places of the arrays, or is refused.
+use Rattle.std.proofs.Common.{Err, Ok, Result}
 use mathlib.Core.Path.{◌≡◌, refl, ap, ◌∙◌}
 use mathlib.Core.List.{List, map}
 use Prim.Native.Nat.{ℕ, ◌+◌, ◌≤◌}
@@ -8,15 +9,14 @@ use lib.Seq.{sets, length-sets}
 use Rattle.lists.proofs.Fronts.{first-are}
 use Rattle.refusals.specs.declared.Refusal.{Refusal}
 use Rattle.class.specs.declared.Operation.{Operation}
-use Rattle.sheet.specs.declared.Told.{Told}
-use Rattle.sheet.specs.declared.Told.TheVariants.{Read, Refused as NotRead}
+use Rattle.sheet.specs.declared.Counts.{Counts}
+use Rattle.refusals.specs.declared.Refusal.{Refusal}
 use Rattle.sheet.specs.Sheet.{Sheet, Fits, most_edges}
 use Rattle.sheet.specs.Reading.{Reading, Accepted, read_sheet}
 use Rattle.sheet.specs.Reading as R
 use Rattle.sheet.specs.Stored.{ends_of, labels_of, leave}
 use Rattle.sheet.specs.Stored as Stored
 use Rattle.sheet.proofs.Sheets.{describes}
-use Rattle.overlay_work.specs.declared.Overlaid.TheVariants.{Refused}
 use Rattle.overlay_work.specs.Overlay.{Work, After, left, put, no_ends, no_labels, ends_in, labels_in, overlay_edges, overlay_sheet, after_reading}
 use Rattle.overlay_work.specs.Told.{told_count, told_to}
 
@@ -51,11 +51,11 @@ module _ (s : Sheet) (f : Fits s) where
 -- a sheet that is read fits
 abbrev pub Fitting : Reading → Type 0
 Fitting (Accepted s) = Fits s
-Fitting (R.Refused number line) = Unit {0}
+Fitting (R.Refused reason line) = Unit {0}
 
 pub read_fits : (b : List ℕ) (r : Reading) → read_sheet b ≡ r → Fitting r
 read_fits b (Accepted s) e = (describes b s e).1
-read_fits b (R.Refused number line) e = tt
+read_fits b (R.Refused reason line) e = tt
 
 abbrev left_to : Stored.After → Work
 left_to x = told_to x.answer x.ends x.labels
@@ -63,22 +63,19 @@ left_to x = told_to x.answer x.ends x.labels
 leaves-work : (r : Reading) → Fitting r → left_to (leave r no_ends no_labels) ≡ after_reading r
 unfolding leave after_reading overlay_sheet told_to
 leaves-work (Accepted s) f = rw (ends-are s f, labels-are s f)
-leaves-work (R.Refused number line) f = refl
+leaves-work (R.Refused reason line) f = refl
 
 leaves-few : (r : Reading) → Fitting r → told_count (leave r no_ends no_labels).answer ≤ most_edges
 unfolding leave told_count
 leaves-few (Accepted s) f = f.few
-leaves-few (R.Refused number line) f = omega arith
+leaves-few (R.Refused reason line) f = omega arith
 
 leaves-room : (r : Reading) → (length (leave r no_ends no_labels).ends ≡ most_edges) × (length (leave r no_ends no_labels).labels ≡ most_edges)
 unfolding leave
 leaves-room (Accepted s) = (length-sets no_ends 0 (ends_in s) ∙ ends-room, length-sets no_labels 0 (labels_in s) ∙ labels-room)
-leaves-room (R.Refused number line) = (ends-room, labels-room)
+leaves-room (R.Refused reason line) = (ends-room, labels-room)
 
-module _ (r : Reading) (f : Fitting r) (x : Told) (es es₀ : List (List ℕ)) (ls ls₀ : List (List ℕ)) (h : es₀ ≡ no_ends) (k : ls₀ ≡ no_labels) (e : Stored.left x es ls ≡ leave r es₀ ls₀) where
-  left_is : Stored.left x es ls ≡ leave r no_ends no_labels
-  left_is = e ∙ ap (λ (y : List (List ℕ)). leave r y ls₀) h ∙ ap (leave r no_ends) k
-
+module _ (r : Reading) (f : Fitting r) (x : Result Counts Refusal) (es ls : List (List ℕ)) (left_is : Stored.left x es ls ≡ leave r no_ends no_labels) where
   few : told_count x ≤ most_edges
   few =
       let n : told_count x ≡ told_count (leave r no_ends no_labels).answer = ap (λ (y : Stored.After). told_count y.answer) left_is in
@@ -96,15 +93,14 @@ module _ (r : Reading) (f : Fitting r) (x : Told) (es es₀ : List (List ℕ)) (
 
 -- ---- which answer it was
 
-pub counted : (x : Told) (o : Operation) (a c n : ℕ) → x ≡ Read o a c → told_count x ≤ n → a + c ≤ n
+pub counted-within : (x : Result Counts Refusal) (l : Counts) (n m : ℕ) → x ≡ Ok l → (told_count x ≤ n) × (told_count x ≤ m) → (l.subject + l.clip ≤ n) × (l.subject + l.clip ≤ m)
 unfolding told_count
-counted x o a c n e h = rw e at h
+counted-within x l n m e h = rw e at h
 
-module _ (x : Told) (es : List (List ℕ)) (ls : List (List ℕ)) (out : List ℕ) where
-  pub told-refused : (q : Refusal) → x ≡ NotRead q → left (Refused q) out ≡ put (told_to x es ls) out
+module _ (x : Result Counts Refusal) (es : List (List ℕ)) (ls : List (List ℕ)) (out : List ℕ) (w : Work) (works : told_to x es ls ≡ w) where
+  pub told-refused : (q : Refusal) → x ≡ Err q → left (Err q) out ≡ put w out
   unfolding told_to put
-  told-refused q e = rw e
+  told-refused q e = ap (λ (y : Work). put y out) (rw e at works)
 
-  pub told-read : (o : Operation) (a c : ℕ) → x ≡ Read o a c → (y : After) → y ≡ put (overlay_edges o (take (a + c) es) (take (a + c) ls)) out → y ≡ put (told_to x es ls) out
-  unfolding told_to
-  told-read o a c e y g = rw e g
+  pub told-read : (l : Counts) → x ≡ Ok l → (y : After) → y ≡ put (told_to (Ok l) es ls) out → y ≡ put w out
+  told-read l e y g = g ∙ ap (λ (y : Work). put y out) (rw e at works)

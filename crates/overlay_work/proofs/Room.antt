@@ -1,5 +1,10 @@
 -- Edges that a smaller pool does not refuse by 6 are worked in it as in the large one: loading and the sweep leave there what the large pool has in its
 -- first places (`sweep_room`), and no more than those are in use.
+use Rattle.refusals.specs.Refusals.{same_reason}
+use Rattle.std.proofs.Common.{Err, Ok, Result}
+use Rattle.refusals.specs.declared.Reason.TheVariants as Reason
+use Rattle.refusals.specs.declared.Refusal.{Refusal}
+use Rattle.refusals.specs.Refusals.{Verdict}
 use mathlib.Core.Path.{◌≡◌, refl, sym, ap, ap₂, ◌∙◌}
 use mathlib.Core.Bool.{Bool, true, false, cond}
 use mathlib.Core.List.{List}
@@ -10,25 +15,17 @@ use lib.ListN.{length, take, replicate, length-take}
 use lib.Seq.{sets, take-take}
 use Rattle.events.specs.Pool.{Pool, pool, size, stored}
 use Rattle.class.specs.declared.Operation.{Operation}
-use Rattle.checks.specs.declared.Check.{Check}
-use Rattle.checks.specs.declared.Check.TheVariants.{Passed, Refused as Struck}
 use Rattle.checks.specs.Checks.{max_events}
-use Rattle.loading.specs.declared.Loaded.{Loaded}
-use Rattle.loading.specs.declared.Loaded.TheVariants as Loading
 use Rattle.loading.specs.OnPool.{edges_of, accept, after_checks, load}
 use Rattle.loading.specs.OnPool as Loads
 use Rattle.loading.proofs.Edges.{length-edges}
 use Rattle.loading.proofs.Kept.{points_kept, marks-kept}
-use Rattle.sweep.specs.declared.Outcome as Sweep
-use Rattle.sweep.specs.declared.Outcome.TheVariants as Sweeping
 use Rattle.crossing.specs.Modes.{ordered}
 use Rattle.sweep.specs.OnPool.{subdivide_pool}
 use Rattle.sweep.specs.OnPool as Sweeps
 use Rattle.sweep_room.specs.Room.{first_places, Larger, wants_room, first_of_loaded, first_of_swept}
 use Rattle.sweep_room.proofs.Places.{take-alike}
 use Rattle.sweep_room.proofs.Calls.{load-room, sweep-room}
-use Rattle.overlay_work.specs.declared.Overlaid.{Overlaid}
-use Rattle.overlay_work.specs.declared.Overlaid.TheVariants.{Printed, Refused}
 use Rattle.overlay_work.specs.Overlay.{Work, Text, Stopped, After, left, put, wanted, is_full, pool_places, few_places, no_points, no_marks, none_taken, empty_pool, swept_to, after_sweep, loaded_to, after_loading, overlay_edges_in, overlay_edges}
 use Rattle.overlay_work.proofs.Empty.{points-room, marks-room, taken-room}
 use Rattle.overlay_work.proofs.Handing.{taken-within, in_use}
@@ -36,20 +33,20 @@ use Rattle.overlay_work.proofs.Handing.{taken-within, in_use}
 -- ---- loading
 
 -- two records for each edge
-records-few : (ends : List (List ℕ)) (labels : List (List ℕ)) (p : Pool) (k : ℕ) → (load ends labels p).answer ≡ Loading.Done k → k ≤ 2 * length ends
+records-few : (ends : List (List ℕ)) (labels : List (List ℕ)) (p : Pool) (k : ℕ) → (load ends labels p).answer ≡ Ok k → k ≤ 2 * length ends
 unfolding load after_checks
 records-few ends labels p k = go (accept ends labels p)
   where
-    go : (x : Check) → (after_checks x (edges_of ends labels) p).answer ≡ Loading.Done k → k ≤ 2 * length ends
-    go Passed e = let z : 2 * length (edges_of ends labels) ≡ k = cc in omega (arith, z, length-edges ends labels)
-    go (Struck r) e = absurd (let z : ◌≡◌ {A = ℕ} 0 1 = cc in omega arith)
+    go : (x : Verdict) → (after_checks x (edges_of ends labels) p).answer ≡ Ok k → k ≤ 2 * length ends
+    go (Ok _) e = let z : 2 * length (edges_of ends labels) ≡ k = cc in omega (arith, z, length-edges ends labels)
+    go (Err r) e = absurd (let z : ◌≡◌ {A = ℕ} 0 1 = cc in omega arith)
 
 -- ---- the sweep
 
 -- stopped as the pool was full
 abbrev stopped_full : Work → Bool
 stopped_full (Text t) = false
-stopped_full (Stopped r) = eqb r.number 6
+stopped_full (Stopped r) = same_reason r.reason Reason.Full
 
 module _ (o : Operation) (n : ℕ) (p : Pool) (k : ℕ) (taken : List ℕ) (larger : Larger n p taken) (few : k ≤ n) where
   abbrev small : Sweeps.After
@@ -62,9 +59,9 @@ module _ (o : Operation) (n : ℕ) (p : Pool) (k : ℕ) (taken : List ℕ) (larg
   unfolding after_sweep swept_to wants_room
   not_full = go small.answer.outcome
     where
-      go : (x : Sweep.Outcome) → stopped_full (swept_to x (first_places small.answer.used small.pool) (take small.answer.taken small.taken)) ≡ false → wants_room x ≡ false
-      go Sweeping.Done h = refl
-      go (Sweeping.Refused r) h = h
+      go : (x : Verdict) → stopped_full (swept_to x (first_places small.answer.used small.pool) (take small.answer.taken small.taken)) ≡ false → wants_room x ≡ false
+      go (Ok _) h = refl
+      go (Err r) h = h
 
   module _ (e : small ≡ first_of_swept n large) where
     small_is : Sweeps.after large.answer (first_places n large.pool) (take n large.taken) ≡ small
@@ -72,7 +69,7 @@ module _ (o : Operation) (n : ℕ) (p : Pool) (k : ℕ) (taken : List ℕ) (larg
     small_is = sym e
 
     -- the small pool has all that is in use, and all that was taken
-    used-few : large.answer.outcome ≡ Sweeping.Done → large.answer.used ≤ n
+    used-few : large.answer.outcome ≡ Ok tt → large.answer.used ≤ n
     unfolding stored size
     used-few d =
         let u = in_use o (first_places n p) k (take n taken) large.answer (first_places n large.pool) (take n large.taken) small_is d in
@@ -83,13 +80,13 @@ module _ (o : Operation) (n : ℕ) (p : Pool) (k : ℕ) (taken : List ℕ) (larg
         let t = taken-within o (first_places n p) k (take n taken) large.answer (first_places n large.pool) (take n large.taken) small_is in
         omega (arith, t, length-take n large.taken)
 
-    same-places : (x : Sweep.Outcome) → large.answer.outcome ≡ x
+    same-places : (x : Verdict) → large.answer.outcome ≡ x
         → swept_to x (first_places large.answer.used (first_places n large.pool)) (take large.answer.taken (take n large.taken)) ≡ swept_to x (first_places large.answer.used large.pool) (take large.answer.taken large.taken)
     unfolding swept_to
-    same-places Sweeping.Done d =
+    same-places (Ok _) d =
         let u = used-few d in
         rw (take-take large.answer.used n large.pool.points u, take-take large.answer.used n large.pool.marks u, take-take large.answer.taken n large.taken taken-few)
-    same-places (Sweeping.Refused r) d = refl
+    same-places (Err r) d = refl
 
     same_after : after_sweep small ≡ after_sweep large
     unfolding after_sweep first_of_swept
@@ -129,11 +126,11 @@ module _ (n m : ℕ) (within : n ≤ m) (few : m ≤ max_events) (o : Operation)
       let t = taken-room m in
       record { within = omega (arith, a, within); marks = b ∙ sym a; takes = t ∙ sym a; few = omega (arith, a, few) }
 
-  outcomes : (y : Loaded) → x.answer ≡ y → stopped_full (loaded_to o (take n (none_taken m)) y (first_places n x.pool)) ≡ false
+  outcomes : (y : Result ℕ Refusal) → x.answer ≡ y → stopped_full (loaded_to o (take n (none_taken m)) y (first_places n x.pool)) ≡ false
       → loaded_to o (take n (none_taken m)) y (first_places n x.pool) ≡ loaded_to o (none_taken m) y x.pool
   unfolding loaded_to
-  outcomes (Loading.Done k) e h = swept-room o n x.pool k (none_taken m) larger (omega (arith, room, records-few ends labels (empty_pool m) k e)) h
-  outcomes (Loading.Refused r) e h = refl
+  outcomes (Ok k) e h = swept-room o n x.pool k (none_taken m) larger (omega (arith, room, records-few ends labels (empty_pool m) k e)) h
+  outcomes (Err r) e h = refl
 
   smaller-is : overlay_edges_in n o ends labels ≡ loaded_to o (take n (none_taken m)) x.answer (first_places n x.pool)
   unfolding overlay_edges_in after_loading
@@ -153,7 +150,7 @@ full-stays : (w : Work) (out : List ℕ) → is_full (put w out).answer ≡ true
 unfolding put is_full
 full-stays (Text t) out h = go (ltb (length out) (wanted t)) h
   where
-    go : (b : Bool) → let y = cond b (left (Refused (record { number = 5; place = wanted t })) out) (left (Printed (wanted t)) (sets out 0 t)) in is_full y.answer ≡ true → y.out ≡ out
+    go : (b : Bool) → let y = cond b (left (Err (record { reason = Reason.Room; place = wanted t })) out) (left (Ok (wanted t)) (sets out 0 t)) in is_full y.answer ≡ true → y.out ≡ out
     go true h = refl
     go false h = absurd (let z : ◌≡◌ {A = ℕ} 0 1 = cc in omega arith)
 full-stays (Stopped r) out h = refl
@@ -168,7 +165,7 @@ module _ (o : Operation) (ends : List (List ℕ)) (labels : List (List ℕ)) (ou
   unfolding overlay_edges
   in-large y h = h
 
-  module _ (a : Overlaid) (out' : List ℕ) (e : left a out' ≡ put (overlay_edges_in few_places o ends labels) out) (b : Bool) (is : b ≡ is_full a) where
+  module _ (a : Result ℕ Refusal) (out' : List ℕ) (e : left a out' ≡ put (overlay_edges_in few_places o ends labels) out) (b : Bool) (is : b ≡ is_full a) where
     tested : b ≡ is_full (put (overlay_edges_in few_places o ends labels) out).answer
     tested = is ∙ ap (λ (x : After). is_full x.answer) e
 

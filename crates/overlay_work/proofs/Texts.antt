@@ -1,6 +1,6 @@
 -- What is printed after connection is the text of its outlines: the arrays hold them, and behind them what was lent.
+use Rattle.std.proofs.Common.{Option, None, Some}
 use mathlib.Core.Path.{◌≡◌, refl, sym, ap, ◌∙◌}
-use mathlib.Core.Option.{Option, none, some}
 use mathlib.Core.List.{List, [], ◌∷◌, ◌++◌, map}
 use Prim.Native.Nat.{ℕ, ◌+◌, ◌≤◌}
 use native.Mathlib.Numerals.{add-one}
@@ -38,8 +38,8 @@ holes-same (o ∷ os) = rw (holes-same os)
 
 code_same : (p : Option ℕ) → code_of p ≡ number_of p
 unfolding code_of number_of
-code_same none = refl
-code_same (some p) = add-one p
+code_same None = refl
+code_same (Some p) = add-one p
 
 rows_same : (c h : ℕ) (os : List (Outline Point)) → rows_in c h os ≡ rows_from c h os
 unfolding rows_in row_in rows_from

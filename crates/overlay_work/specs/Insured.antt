@@ -1,5 +1,6 @@
 -- The insurer's first answer, of a sheet: is every wall in exactly one outline of the printed map? A wall is a result edge of the swept sheet: a left
 -- record among the events taken that is in the result; its two ends are its own point and its partner's.
+use Rattle.std.specs.Prelude.{Ok}
 use Rattle.std.specs.Prelude.{◌≡◌, ℕ, ◌<◌, take}
 use mathlib.Core.List.{List, Memᴰ}
 use Rattle.numbers.specs.declared.Point.{Point}
@@ -8,10 +9,8 @@ use Rattle.events.specs.Binary64.{at_binary64}
 use Rattle.events.specs.Pool.{Pool, row_at}
 use Rattle.class.specs.declared.Operation.{Operation}
 use Rattle.class.specs.declared.Operation.TheVariants.{Intersection, Difference, Union, Xor}
-use Rattle.loading.specs.declared.Loaded.TheVariants as Loading
 use Rattle.loading.specs.OnPool.{load}
 use Rattle.loading.specs.OnPool as Loads
-use Rattle.sweep.specs.declared.Outcome.TheVariants as Sweeping
 use Rattle.sweep.specs.OnPool.{subdivide_pool}
 use Rattle.sweep.specs.OnPool as Sweeps
 use Rattle.sweep_room.specs.Room.{first_places}
@@ -39,8 +38,8 @@ pub record Run (bytes : List ℕ) : Type 0 where
   pub sheet : Sheet
   pub reads : read_sheet bytes ≡ Accepted sheet
   pub loaded : ℕ
-  pub loads : (loaded_sheet sheet).answer ≡ Loading.Done loaded
-  pub sweeps : (swept_sheet sheet loaded).answer.outcome ≡ Sweeping.Done
+  pub loads : (loaded_sheet sheet).answer ≡ Ok loaded
+  pub sweeps : (swept_sheet sheet loaded).answer.outcome ≡ Ok tt
 
 module _ {bytes : List ℕ} (r : Run bytes) where
   abbrev pub swept : Sweeps.After

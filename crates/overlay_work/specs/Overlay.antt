@@ -1,7 +1,10 @@
 -- Overlay's work (01, 'The sheet'): the sheet is read, its edges loaded into a pool of 1,024 places and swept, what was taken is connected, and the
 -- contours are printed. The first refusal met is handed on. Last of all the text must fit the lent bytes, else refusal 5 tells the bytes wanted.
 -- Refused bytes stay as lent.
-use Rattle.std.specs.Prelude.{Bool, false, cond, List, ◌++◌, map, ℕ, min, eqb, ltb, length, take, replicate}
+use Rattle.refusals.specs.Refusals.{same_reason}
+use Rattle.refusals.specs.Refusals.{Verdict}
+use Rattle.std.specs.Prelude.{Bool, false, cond, List, ◌++◌, map, ℕ, min, eqb, ltb, length, take, replicate, Err, Ok, Result}
+use Rattle.refusals.specs.declared.Reason.TheVariants as Reason
 use Rattle.std.proofs.lemmas.List.Edits.{sets}
 use Rattle.refusals.specs.declared.Refusal.{Refusal}
 use Rattle.events.specs.Pool.{Pool, pool}
@@ -10,25 +13,17 @@ use Rattle.checks.specs.Checks.{few_events}
 use Rattle.sheet.specs.Sheet.{Sheet, most_edges}
 use Rattle.sheet.specs.Reading.{Reading, read_sheet}
 use Rattle.sheet.specs.Stored.{ends_of, labels_of}
-use Rattle.loading.specs.declared.Loaded.{Loaded}
-use Rattle.loading.specs.declared.Loaded.TheVariants as Loading
 use Rattle.loading.specs.OnPool.{load}
 use Rattle.loading.specs.OnPool as Loads
-use Rattle.sweep.specs.declared.Outcome as Swept
-use Rattle.sweep.specs.declared.Outcome.TheVariants as Sweeping
 use Rattle.crossing.specs.Modes.{ordered}
 use Rattle.sweep.specs.OnPool.{subdivide_pool}
 use Rattle.sweep.specs.OnPool as Sweeps
 use Rattle.sweep_room.specs.Room.{first_places}
-use Rattle.connection.specs.declared.Outcome as Connected
-use Rattle.connection.specs.declared.Outcome.TheVariants as Connecting
 use Rattle.connection.specs.Connection.{Lent, lent, connect_edges}
 use Rattle.connection.specs.Connection as Connects
 use Rattle.printing.specs.Printing.{refusal_line}
 use Rattle.printing.specs.Arrays.{printed_arrays}
 use Rattle.printing.specs.Put.{most_places}
-use Rattle.overlay_work.specs.declared.Overlaid.{Overlaid}
-use Rattle.overlay_work.specs.declared.Overlaid.TheVariants.{Printed, Refused}
 
 -- ---- the arrays at the start
 
@@ -80,9 +75,9 @@ pub data Work : Type 0 where
   Text : List ℕ → Work
   Stopped : Refusal → Work
 
-unfoldable pub connected_to : Connected.Outcome → ℕ → Lent → Work
-connected_to Connecting.Done n l = Text (printed_arrays l.corners l.contours l.holes n)
-connected_to (Connecting.Refused r) n l = Stopped r
+unfoldable pub connected_to : Verdict → ℕ → Lent → Work
+connected_to (Ok _) n l = Text (printed_arrays l.corners l.contours l.holes n)
+connected_to (Err r) n l = Stopped r
 
 unfoldable pub after_connection : Connects.After → Work
 after_connection x = connected_to x.answer.outcome x.answer.contours x.outlines
@@ -90,17 +85,17 @@ after_connection x = connected_to x.answer.outcome x.answer.contours x.outlines
 unfoldable pub overlay_taken : Pool → List ℕ → Work
 overlay_taken p list = after_connection (connect_edges p list (empty_outlines pool_places contour_places))
 
-unfoldable pub swept_to : Swept.Outcome → Pool → List ℕ → Work
-swept_to Sweeping.Done p list = overlay_taken p list
-swept_to (Sweeping.Refused r) p list = Stopped r
+unfoldable pub swept_to : Verdict → Pool → List ℕ → Work
+swept_to (Ok _) p list = overlay_taken p list
+swept_to (Err r) p list = Stopped r
 
 -- the events taken, in the places that are in use
 unfoldable pub after_sweep : Sweeps.After → Work
 after_sweep x = swept_to x.answer.outcome (first_places x.answer.used x.pool) (take x.answer.taken x.taken)
 
-unfoldable pub loaded_to : Operation → List ℕ → Loaded → Pool → Work
-loaded_to o taken (Loading.Done n) p = after_sweep (subdivide_pool o ordered p n taken)
-loaded_to o taken (Loading.Refused r) p = Stopped r
+unfoldable pub loaded_to : Operation → List ℕ → Result ℕ Refusal → Pool → Work
+loaded_to o taken (Ok n) p = after_sweep (subdivide_pool o ordered p n taken)
+loaded_to o taken (Err r) p = Stopped r
 
 unfoldable pub after_loading : Operation → List ℕ → Loads.After → Work
 after_loading o taken x = loaded_to o taken x.answer x.pool
@@ -124,7 +119,7 @@ overlay_sheet s = overlay_edges s.operation (ends_in s) (labels_in s)
 
 unfoldable pub after_reading : Reading → Work
 after_reading (Reading.Accepted s) = overlay_sheet s
-after_reading (Reading.Refused number line) = Stopped (record { number = number; place = line })
+after_reading (Reading.Refused reason line) = Stopped (record { reason = reason; place = line })
 
 -- ---- the whole
 
@@ -136,20 +131,20 @@ unfoldable pub wanted : List ℕ → ℕ
 wanted text = min (length text) most_places
 
 pub record After : Type 0 where
-  pub answer : Overlaid
+  pub answer : Result ℕ Refusal
   pub out : List ℕ
 
-abbrev pub left : Overlaid → List ℕ → After
+abbrev pub left : Result ℕ Refusal → List ℕ → After
 left answer out = record { answer = answer; out = out }
 
 unfoldable pub put : Work → List ℕ → After
-put (Text t) out = cond (ltb (length out) (wanted t)) (left (Refused (record { number = 5; place = wanted t })) out) (left (Printed (wanted t)) (sets out 0 t))
-put (Stopped r) out = left (Refused r) out
+put (Text t) out = cond (ltb (length out) (wanted t)) (left (Err (record { reason = Reason.Room; place = wanted t })) out) (left (Ok (wanted t)) (sets out 0 t))
+put (Stopped r) out = left (Err r) out
 
 -- refused by 6: the pool was full
-unfoldable pub is_full : Overlaid → Bool
-is_full (Printed n) = false
-is_full (Refused r) = eqb r.number 6
+unfoldable pub is_full : Result ℕ Refusal → Bool
+is_full (Ok n) = false
+is_full (Err r) = same_reason r.reason Reason.Full
 
 unfoldable pub overlay : (bytes out : List ℕ) → After
 overlay bytes out = put (work bytes) out
@@ -163,9 +158,9 @@ pub record Answer : Type 0 where
 abbrev pub answered : ℕ → List ℕ → Answer
 answered n out = record { bytes = n; out = out }
 
-unfoldable pub told : Overlaid → List ℕ → Answer
-told (Printed n) out = answered n out
-told (Refused r) out = answered (wanted (refusal_line r)) (sets out 0 (refusal_line r))
+unfoldable pub told : Result ℕ Refusal → List ℕ → Answer
+told (Ok n) out = answered n out
+told (Err r) out = answered (wanted (refusal_line r)) (sets out 0 (refusal_line r))
 
 unfoldable pub answer : (bytes out : List ℕ) → Answer
 answer bytes out = told (overlay bytes out).answer (overlay bytes out).out

@@ -19,7 +19,7 @@ use Rattle.contours.proofs.Lists.{All, all_of, all-perm, all-mem, keep_out}
 use Rattle.contours.proofs.Sort.{sort-is}
 use Rattle.positions.specs.Positions.{ordered_in, places_in, place_in}
 use Rattle.positions.specs.Steps.{added, earlier_in}
-use Rattle.positions.proofs.Sorted.{length-insert, ordered-cons, ordered-none}
+use Rattle.positions.proofs.Sorted.{length-insert, ordered-cons, ordered-nil}
 use Rattle.positions.proofs.Placing.{length-each, get_d-each}
 
 -- ---- how many
@@ -33,7 +33,7 @@ added-most p a s = go (in_result (row_at p) a)
     go false = omega arith
 
 pub count_most : (p : Pool) (l : List ℕ) → length (ordered_in p l) ≤ length l
-count_most p [] = rw (ordered-none p [] 0 (omega arith)) (omega arith)
+count_most p [] = rw (ordered-nil p) (omega arith)
 count_most p (a ∷ l) = rw (ordered-cons p a l) (omega (arith, added-most p a (ordered_in p l), count_most p l))
 
 -- ---- the place of a record that is not there

@@ -29,10 +29,8 @@ pub fn copy_results(
     ensures { Copied (pool points.now marks.now) list.now order.old order.new result }
 {
     let mut n = 0;
-    let mut i = 0;
-    while i < list.len() {
-        n = append(points, marks, order, n, list[i]);
-        i += 1;
+    for &r in list {
+        n = append(points, marks, order, n, r);
     }
     n
 }
@@ -42,12 +40,5 @@ pub fn is_sorted(points: &[[u64; 2]], marks: &[[u32; 12]], order: &[u32], n: usi
     requires { n ≤ length order.now }
     ensures { result ≡ is_sorted (earlier_in (pool points.now marks.now)) (take n order.now) }
 {
-    let mut i = 0;
-    while i + 1 < n {
-        if !before_at(points, marks, order[i], order[i + 1]) {
-            return false;
-        }
-        i += 1;
-    }
-    true
+    order[..n].is_sorted_by(|a, b| before_at(points, marks, *a, *b))
 }

@@ -1,6 +1,8 @@
 -- Two different results never print alike: each piece is told apart from what comes after it, so the text is taken apart in one way only.
+use Rattle.refusals.specs.Refusals.{number}
+use Rattle.refusals.proofs.Numbers.{number-apart, number-small}
+use Rattle.std.proofs.Common.{Some, Option, None}
 use mathlib.Core.Path.{◌≡◌, refl, sym, ap, ◌∙◌}
-use mathlib.Core.Option.{Option, none, some}
 use mathlib.Core.List.{List, [], ◌∷◌, ◌++◌, map, append_assoc, append-nil}
 use Prim.Native.Nat.{ℕ, ◌<◌}
 use native.Mathlib.Omega.{arith}
@@ -8,7 +10,6 @@ use lib.ListN.{length, take, drop}
 use lib.Seq.{drop_at, drop-append_seam, take_at}
 use Rattle.refusals.specs.declared.Refusal.{Refusal}
 use Rattle.numbers.specs.declared.Point.{Point}
-use Rattle.text.specs.declared.digits.Read.TheVariants.{Value}
 use Rattle.text.specs.Quoted.{quoted}
 use Rattle.text.specs.Digits.{digit_of, value, hex, decimal}
 use Rattle.text.proofs.Writing.{digits-length}
@@ -30,7 +31,7 @@ pub decimal-apart : (m n : ℕ) (s t : List ℕ) → m < 18446744073709551616 �
 decimal-apart m n s t h k x y e =
     let long : length (decimal n) ≡ length (decimal m) = sym (numeral-front n t y (omega arith)) ∙ ap numeral (sym e) ∙ numeral-front m s x (omega arith) in
     let front : decimal m ≡ decimal n = sym (take_at (decimal m) s (length (decimal m)) refl) ∙ ap (take (length (decimal m))) e ∙ take_at (decimal n) t (length (decimal m)) long in
-    let both : Value m ≡ Value n = sym (decimal-back m (omega arith)) ∙ ap (value 10 0) front ∙ decimal-back n (omega arith) in
+    let both : Some m ≡ Some n = sym (decimal-back m (omega arith)) ∙ ap (value 10 0) front ∙ decimal-back n (omega arith) in
     let same : m ≡ n = cc in
     (same, word-apart (decimal n) s t (ap (λ (k : ℕ). decimal k ++ s) (sym same) ∙ e))
 
@@ -39,7 +40,7 @@ hex-apart m n s t h k e =
     let long = digits-length 16 16 m in
     let wide = digits-length 16 16 n in
     let front : hex m ≡ hex n = sym (take_at (hex m) s 16 long) ∙ ap (take 16) e ∙ take_at (hex n) t 16 wide in
-    let both : Value m ≡ Value n = sym (back 16 (omega arith) (omega arith) 16 m h) ∙ ap (value 16 0) front ∙ back 16 (omega arith) (omega arith) 16 n k in
+    let both : Some m ≡ Some n = sym (back 16 (omega arith) (omega arith) 16 m h) ∙ ap (value 16 0) front ∙ back 16 (omega arith) (omega arith) 16 n k in
     (cc, sym (drop_at (hex m) s 16 long) ∙ ap (drop 16) e ∙ drop_at (hex n) t 16 wide)
 
 ended : (t : List ℕ) → run (10 ∷ t) ≡ 0
@@ -60,12 +61,12 @@ line-apart w m n s t h k e =
 -- what comes after a parent begins with a space
 parent-apart : (p q : Option ℕ) (s t : List ℕ) → ParentFits p → ParentFits q → run s ≡ 0 → run t ≡ 0 → parent_bytes p ++ s ≡ parent_bytes q ++ t → (p ≡ q) × (s ≡ t)
 unfolding parent_bytes quoted run digit_of
-parent-apart none none s t h k x y e = (refl, ap (drop 1) e)
-parent-apart none (some q) s t h k x y e =
+parent-apart None None s t h k x y e = (refl, ap (drop 1) e)
+parent-apart None (Some q) s t h k x y e =
     let z : 0 ≡ length (decimal q) = ap run e ∙ run-decimal q t y in absurd (omega (arith, decimal-some q))
-parent-apart (some p) none s t h k x y e =
+parent-apart (Some p) None s t h k x y e =
     let z : length (decimal p) ≡ 0 = sym (run-decimal p s x) ∙ ap run e in absurd (omega (arith, decimal-some p))
-parent-apart (some p) (some q) s t h k x y e = let r = decimal-apart p q s t h k x y e in (ap some r.0, r.1)
+parent-apart (Some p) (Some q) s t h k x y e = let r = decimal-apart p q s t h k x y e in (ap Some r.0, r.1)
 
 spaced : (d : ℕ) (s : List ℕ) → run (count_line (quoted " depth ") d ++ s) ≡ 0
 unfolding run digit_of count_line quoted
@@ -169,16 +170,17 @@ begins-otherwise s t e = let z : ◌≡◌ {A = ℕ} 114 99 = cc in omega arith
 pub refusal-no-drawing : (r : Refusal) (l : List Drawn) → refusal_line r ≡ drawing l → ⊥
 unfolding refusal_line drawing count_line
 refusal-no-drawing r l e =
-    begins-otherwise (decimal r.number ++ count_line (quoted " at ") r.place) ((decimal (length l) ++ (10 ∷ [])) ++ contours_lines l) (e ∙ append_assoc (quoted "contours ") (decimal (length l) ++ (10 ∷ [])) (contours_lines l))
+    begins-otherwise (decimal (number r.reason) ++ count_line (quoted " at ") r.place) ((decimal (length l) ++ (10 ∷ [])) ++ contours_lines l) (e ∙ append_assoc (quoted "contours ") (decimal (length l) ++ (10 ∷ [])) (contours_lines l))
 
 at_place : (d : ℕ) → run (count_line (quoted " at ") d) ≡ 0
 unfolding run digit_of count_line quoted
 at_place d = refl
 
 -- .. and as no other refusal does
-pub refusal-apart : (q r : Refusal) → q.number < 18446744073709551616 → r.number < 18446744073709551616 → q.place < 18446744073709551616 → r.place < 18446744073709551616 → refusal_line q ≡ refusal_line r → q ≡ r
+pub refusal-apart : (q r : Refusal) → q.place < 18446744073709551616 → r.place < 18446744073709551616 → refusal_line q ≡ refusal_line r → q ≡ r
 unfolding refusal_line
-refusal-apart q r h k x y e =
-    let p = decimal-apart q.number r.number (count_line (quoted " at ") q.place) (count_line (quoted " at ") r.place) h k (at_place q.place) (at_place r.place) (word-apart (quoted "refused ") (decimal q.number ++ count_line (quoted " at ") q.place) (decimal r.number ++ count_line (quoted " at ") r.place) e) in
+refusal-apart q r x y e =
+    let p = decimal-apart (number q.reason) (number r.reason) (count_line (quoted " at ") q.place) (count_line (quoted " at ") r.place) (number-small q.reason) (number-small r.reason) (at_place q.place) (at_place r.place) (word-apart (quoted "refused ") (decimal (number q.reason) ++ count_line (quoted " at ") q.place) (decimal (number r.reason) ++ count_line (quoted " at ") r.place) e) in
     let g = line-apart (quoted " at ") q.place r.place [] [] x y (append-nil (count_line (quoted " at ") q.place) ∙ p.1 ∙ sym (append-nil (count_line (quoted " at ") r.place))) in
-    λ i. record { number = p.0 i; place = g.0 i }
+    let same = number-apart q.reason r.reason p.0 in
+    λ i. record { reason = same i; place = g.0 i }

@@ -1,11 +1,11 @@
 -- Pieces are put one after the other: what is left, put from where the last piece ended, gives the whole.
 use mathlib.Core.Path.{◌≡◌, refl, sym, ap, ◌∙◌}
-use mathlib.Core.List.{List, [], ◌∷◌, ◌++◌}
-use Prim.Native.Nat.{ℕ, suc, ◌+◌, ◌≤◌, ◌<◌, min}
+use mathlib.Core.List.{List, [], ◌∷◌, ◌++◌, append-nil, append_assoc}
+use Prim.Native.Nat.{ℕ, zero, suc, ◌+◌, ◌≤◌, ◌<◌, min}
 use native.Mathlib.Decide.{dec_lt}
 use native.Mathlib.Omega.{arith}
-use lib.ListN.{length, length-append}
-use lib.Seq.{sets, set_out, length-sets}
+use lib.ListN.{length, get_or, take, length-append}
+use lib.Seq.{sets, set_out, length-sets, take_all}
 use Rattle.text.specs.Digits.{hex}
 use Rattle.text.proofs.Writing.{digits-length}
 use Rattle.sheet.proofs.Puts.{sets-append}
@@ -41,35 +41,28 @@ then {out} {at} {a} {out₁} {p₁} {b} {out₂} {p₂} h k l =
       next = let n : length (a ++ b) ≡ length a + length b = length-append a b in omega (arith, k.next, l.next);
     }
 
--- ---- many: out and place are what the pieces so far left of the whole, with rest to come
+-- ---- many: a piece for each member of a list
 
-pub record Going (out₀ : List ℕ) (at : ℕ) (whole out : List ℕ) (place : ℕ) (rest : List ℕ) : Type 0 where
-  pub stored : sets out place rest ≡ sets out₀ at whole
-  pub next : min (place + length rest) 18446744073709551615 ≡ min (at + length whole) 18446744073709551615
-  pub fits : length out ≤ 18446744073709551615
-  pub told : place ≤ 18446744073709551615
+pub record Lines {A : Type 0} (lines : List A → List ℕ) (line : A → List ℕ) : Type 0 where
+  pub none : lines [] ≡ []
+  pub more : (a : A) (l : List A) → lines (a ∷ l) ≡ line a ++ lines l
 
-pub begun : (out : List ℕ) (at : ℕ) (whole rest : List ℕ) → whole ≡ rest → length out ≤ 18446744073709551615 → at ≤ 18446744073709551615 → Going out at whole out at rest
-begun out at whole rest e h t =
-    record { stored = ap (sets out at) (sym e); next = ap (λ (l : List ℕ). min (at + length l) 18446744073709551615) (sym e); fits = h; told = t }
+module _ {A : Type 0} {lines : List A → List ℕ} {line : A → List ℕ} (k : Lines lines line) where
+  one-more : (l : List A) (i : ℕ) (d : A) → i < length l → lines (take (i + 1) l) ≡ lines (take i l) ++ line (get_or l i d)
+  one-more [] i d h = absurd (omega arith)
+  one-more (a ∷ l) zero d h = rw (k.more, k.none) (append-nil (line a))
+  one-more (a ∷ l) (suc i) d h =
+      let e : suc i + 1 ≡ suc (i + 1) = omega arith in
+      rw (e, k.more a (take (i + 1) l), k.more a (take i l), one-more l i d (omega arith), append_assoc)
 
-module _ {out₀ : List ℕ} {at : ℕ} {whole out : List ℕ} {place : ℕ} {rest : List ℕ} (g : Going out₀ at whole out place rest) where
-  pub on : (piece left : List ℕ) → rest ≡ piece ++ left → {out₁ : List ℕ} {place₁ : ℕ} → Put out place piece out₁ place₁ → Going out₀ at whole out₁ place₁ left
-  on piece left e p =
-      record {
-        stored = rw (p.stored, p.next) (sets-on out place piece left g.fits ∙ ap (sets out place) (sym e) ∙ g.stored);
-        next =
-            let n : length rest ≡ length piece + length left = ap length e ∙ length-append piece left in
-            omega (arith, p.next, g.next);
-        fits = kept p g.fits;
-        told = omega (arith, p.next);
-      }
+  pub begun : (l : List A) (out : List ℕ) (at : ℕ) → at ≤ 18446744073709551615 → Put out at (lines (take 0 l)) out at
+  begun l out at h = rw k.none (record { stored = refl; next = omega arith })
 
-  pub done : rest ≡ [] → Put out₀ at whole out place
-  done e =
-      let f : sets out place rest ≡ out = ap (sets out place) e in
-      let n : length rest ≡ 0 = ap length e in
-      record { stored = sym f ∙ g.stored; next = omega (arith, g.next, g.told) }
+  pub on : (l : List A) (i : ℕ) (d : A) → i < length l → {out : List ℕ} {at : ℕ} {out₁ : List ℕ} {p₁ : ℕ} {out₂ : List ℕ} {p₂ : ℕ} → length out ≤ 18446744073709551615 → Put out at (lines (take i l)) out₁ p₁ → Put out₁ p₁ (line (get_or l i d)) out₂ p₂ → Put out at (lines (take (i + 1) l)) out₂ p₂
+  on l i d h room a b = rw (one-more l i d h) (then room a b)
+
+  pub done : (l : List A) (i : ℕ) → length l ≤ i → {out : List ℕ} {at : ℕ} {out₁ : List ℕ} {p₁ : ℕ} → Put out at (lines (take i l)) out₁ p₁ → Put out at (lines l) out₁ p₁
+  done l i h a = rw (take_all i l h) at a
 
 -- ---- a word by its digits
 

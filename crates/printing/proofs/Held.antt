@@ -1,6 +1,6 @@
 -- Arrays that hold outlines, corners one after the other and so holes, print as the outlines do.
+use Rattle.std.proofs.Common.{Option, None, Some}
 use mathlib.Core.Path.{◌≡◌, refl, sym, ap, ◌∙◌}
-use mathlib.Core.Option.{Option, none, some}
 use mathlib.Core.List.{List, [], ◌∷◌, ◌++◌, map, append_assoc}
 use Prim.Native.Nat.{ℕ, ◌+◌}
 use native.Mathlib.Omega.{arith}
@@ -23,8 +23,8 @@ part_held a l c first h =
 
 parent-held : (p : Option ℕ) → parent_of (number_of p) ≡ p
 unfolding parent_of number_of
-parent-held none = refl
-parent-held (some p) = refl
+parent-held None = refl
+parent-held (Some p) = refl
 
 corners-held : (l : List Point) → map corner_of (map numbers_of l) ≡ l
 unfolding corner_of numbers_of

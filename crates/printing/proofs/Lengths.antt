@@ -1,7 +1,8 @@
 -- How long a text is at most, where its numbers have four digits: 46 bytes for each contour, 5 for each hole, 34 for each corner, and the first line.
+use Rattle.refusals.specs.Refusals.{number}
+use Rattle.std.proofs.Common.{Option, None, Some}
 use mathlib.Core.Path.{◌≡◌}
 use mathlib.Core.Bool.{Bool, true, false, cond}
-use mathlib.Core.Option.{Option, none, some}
 use mathlib.Core.List.{List, [], ◌∷◌, map}
 use Prim.Native.Nat.{ℕ, zero, suc, ◌+◌, ◌*◌, ◌/◌, ◌^◌, ◌≤◌, ◌<◌}
 use native.Mathlib.Omega.{arith}
@@ -25,8 +26,8 @@ use Rattle.printing.specs.Printing.{parent_bytes, head_line, hole_lines, corner_
 -- four digits or one sign
 parent_short : (n : ℕ) (p : Option ℕ) → ParentIn n p → n ≤ 10 ^ 4 → length (parent_bytes p) ≤ 4
 unfolding parent_bytes quoted
-parent_short n none h k = omega arith
-parent_short n (some p) h k = decimal-most 3 p (omega arith)
+parent_short n None h k = omega arith
+parent_short n (Some p) h k = decimal-most 3 p (omega arith)
 
 head-short : (n : ℕ) (p : Option ℕ) (d : ℕ) → ParentIn n p → d < n → n ≤ 10 ^ 4 → length (head_line p d) ≤ 23
 unfolding head_line quoted
@@ -82,4 +83,4 @@ decimal-any w = omega (arith, digits-length 10 (places 10 20 w) w, few 20 w)
 
 pub refusal-short : (r : Refusal) → length (refusal_line r) ≤ 55
 unfolding refusal_line count_line quoted
-refusal-short r = simp length-append (omega (arith, decimal-any r.number, decimal-any r.place))
+refusal-short r = simp length-append (omega (arith, decimal-any (number r.reason), decimal-any r.place))

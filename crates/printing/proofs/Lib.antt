@@ -1,7 +1,6 @@
 -- Laws of printing.
 pub mod Goings
 pub mod Parts
-pub mod Words
 pub mod Apart
 pub mod Held
 pub mod Layers

@@ -1,7 +1,6 @@
 -- Contours in lent arrays. A contour's row: its first corner and the place after its last, its parent + 1 or 0, its depth, its first hole and how
 -- many it has. A part that is not within its array is shown empty.
-use Rattle.std.specs.Prelude.{cond, List, [], ◌∷◌, ◌++◌, map, ℕ, zero, suc, ◌+◌, ltb, length, get_or, take, drop}
-use Rattle.std.proofs.Math.Option.{Option, none, some}
+use Rattle.std.specs.Prelude.{cond, List, [], ◌∷◌, ◌++◌, map, ℕ, zero, suc, ◌+◌, ltb, length, get_or, take, drop, Option, None, Some}
 use Rattle.numbers.specs.declared.Point.{Point}
 use Rattle.contours.specs.Outline.{Outline}
 use Rattle.view.specs.View.{part_of}
@@ -18,8 +17,8 @@ unfoldable pub corner_of : List ℕ → Point
 corner_of p = record { x = get_or p 0 0; y = get_or p 1 0 }
 
 unfoldable pub parent_of : ℕ → Option ℕ
-parent_of zero = none
-parent_of (suc p) = some p
+parent_of zero = None
+parent_of (suc p) = Some p
 
 unfoldable pub drawn_row : List (List ℕ) → List ℕ → List ℕ → Drawn
 drawn_row corners holes row =
@@ -37,8 +36,8 @@ printed_arrays corners contours holes count = drawing (map (drawn_row corners ho
 -- ---- arrays as connection writes them: corners one after the other, and so holes
 
 unfoldable pub number_of : Option ℕ → ℕ
-number_of none = 0
-number_of (some p) = suc p
+number_of None = 0
+number_of (Some p) = suc p
 
 unfoldable pub rows_from : (corner hole : ℕ) → List (Outline Point) → List (List ℕ)
 rows_from c h [] = []

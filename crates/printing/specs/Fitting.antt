@@ -1,13 +1,12 @@
 -- What can be printed so that it is read back: every number in 64 bits.
-use Rattle.std.proofs.Math.Option.{Option, none, some}
-use Rattle.std.specs.Prelude.{List, [], ◌∷◌, ℕ, ◌<◌, length}
+use Rattle.std.specs.Prelude.{List, [], ◌∷◌, ℕ, ◌<◌, length, Option, None, Some}
 use Rattle.numbers.specs.declared.Point.{Point}
 use Rattle.sheet.specs.Sheet.{CornerFits}
 use Rattle.printing.specs.Printing.{Drawn}
 
 abbrev pub ParentFits : Option ℕ → Type 0
-ParentFits none = Unit {0}
-ParentFits (some p) = p < 18446744073709551616
+ParentFits None = Unit {0}
+ParentFits (Some p) = p < 18446744073709551616
 
 abbrev pub NumbersFit : List ℕ → Type 0
 NumbersFit [] = Unit {0}

@@ -1,6 +1,6 @@
 -- What is printed (01, 'The sheet'): contours, each with its parent, depth, holes and points, or a refusal. All of the text is here.
-use Rattle.std.proofs.Math.Option.{Option, none, some}
-use Rattle.std.specs.Prelude.{List, [], ◌∷◌, ◌++◌, map, ℕ, length}
+use Rattle.refusals.specs.Refusals.{number}
+use Rattle.std.specs.Prelude.{List, [], ◌∷◌, ◌++◌, map, ℕ, length, Option, None, Some}
 use Rattle.refusals.specs.declared.Refusal.{Refusal}
 use Rattle.numbers.specs.declared.Point.{Point}
 use Rattle.text.specs.Digits.{decimal, hex}
@@ -18,8 +18,8 @@ pub record Drawn : Type 0 where
 -- ---- its lines
 
 unfoldable pub parent_bytes : Option ℕ → List ℕ
-parent_bytes none = quoted "-"
-parent_bytes (some p) = decimal p
+parent_bytes None = quoted "-"
+parent_bytes (Some p) = decimal p
 
 unfoldable pub head_line : Option ℕ → ℕ → List ℕ
 head_line parent depth = quoted "parent " ++ (parent_bytes parent ++ count_line (quoted " depth ") depth)
@@ -59,4 +59,4 @@ printed os = drawing (map drawn os)
 -- ---- a refusal, and nothing else
 
 unfoldable pub refusal_line : Refusal → List ℕ
-refusal_line r = quoted "refused " ++ (decimal r.number ++ count_line (quoted " at ") r.place)
+refusal_line r = quoted "refused " ++ (decimal (number r.reason) ++ count_line (quoted " at ") r.place)

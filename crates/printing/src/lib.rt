@@ -6,7 +6,7 @@ pub mod lines;
 pub mod puts;
 pub mod sheets;
 
-ghost use Rattle.std.specs.Prelude.{map, ◌≡◌, ◌≤◌, min, length, take};
+ghost use Rattle.std.specs.Prelude.{map};
 ghost use Rattle.printing.specs.Printing.{contours_lines, refusal_line};
 ghost use Rattle.printing.specs.Arrays.{drawn_row, printed_arrays};
 ghost use Rattle.printing.specs.Put.{Put};
@@ -15,36 +15,21 @@ use lines::contour_lines;
 use puts::{line, number, text};
 use refusals::Refusal;
 
-// The contours of the first n rows.
+// The contours, one after the other.
 fn all_lines(
     out: &mut [u8],
     at: usize,
     corners: &[[u64; 2]],
     contours: &[[u32; 6]],
     holes: &[u32],
-    n: u32,
 ) -> usize
-    requires { n ≤ length contours.now }
-    ensures { Put out.old at (contours_lines (map (drawn_row corners.now holes.now) (take n contours.now))) out.new result }
+    ensures { Put out.old at (contours_lines (map (drawn_row corners.now holes.now) contours.now)) out.new result }
 {
     let mut place = at;
-    let mut i = 0;
-    while i < n {
-        let row = contours[i as usize];
-        place = contour_lines(out, place, corners, holes, row);
-        i += 1;
+    for row in contours {
+        place = contour_lines(out, place, corners, holes, *row);
     }
     place
-}
-
-// No more than there are.
-fn at_most(count: u32, length: usize) -> u32
-    ensures { result ≡ min count length }
-{
-    if length < count as usize {
-        return length as u32;
-    }
-    count
 }
 
 pub fn print_contours(
@@ -56,15 +41,15 @@ pub fn print_contours(
 ) -> usize
     ensures { Put out.old 0 (printed_arrays corners.now contours.now holes.now count) out.new result }
 {
-    let n = at_most(count, contours.len());
+    let n = contours.len().min(count as usize);
     let place = line(out, 0, b"contours ", n as u64);
-    all_lines(out, place, corners, contours, holes, n)
+    all_lines(out, place, corners, &contours[..n], holes)
 }
 
 pub fn print_refusal(refusal: Refusal, out: &mut [u8]) -> usize
     ensures { Put out.old 0 (refusal_line refusal) out.new result }
 {
     let told = text(out, 0, b"refused ");
-    let end = number(out, told, refusal.number);
+    let end = number(out, told, u64::from(refusal.reason));
     line(out, end, b" at ", refusal.place)
 }

@@ -24,6 +24,7 @@ pub fn number(out: &mut [u8], at: usize, n: u64) -> usize
 }
 
 // The hex digits of a 64-bit word.
+#[tactic(auto, using(crate::proofs::Goings::sixteen))]
 pub fn bits(out: &mut [u8], at: usize, w: u64) -> usize
     ensures { Put out.old at (hex w) out.new result }
 {

@@ -8,6 +8,7 @@ ghost use Rattle.printing.specs.Put.{Put};
 use crate::puts::{line, number, text, word};
 use class::Operation;
 
+#[tactic(auto, unfolding(sheet::specs::Sheet::operation_line, sheet::specs::Sheet::operation_word, text::specs::Quoted::quoted))]
 fn operation_line(out: &mut [u8], at: usize, operation: Operation) -> usize
     ensures { Put out.old at (operation_line operation) out.new result }
 {
@@ -39,10 +40,8 @@ fn edge_lines(out: &mut [u8], at: usize, rows: &[[u64; 5]]) -> usize
     ensures { Put out.old at (edge_lines (map edge_of_row rows.now)) out.new result }
 {
     let mut place = at;
-    let mut i = 0;
-    while i < rows.len() {
-        place = edge_line(out, place, rows[i]);
-        i += 1;
+    for row in rows {
+        place = edge_line(out, place, *row);
     }
     place
 }

@@ -6,10 +6,10 @@ ghost use Rattle.records.specs.Records.{outcome};
 ghost use Rattle.records.specs.Dividing.{divide_segment, possible_intersection};
 
 use crate::in_use::{check_left_two_in, check_one_in};
-use checks::Check;
-use division::Division;
-use neighbours::{Met, Neighbours};
+use division::Divided;
+use neighbours::Neighbours;
 use numbers::Point;
+use refusals::Refusal;
 
 // Divides the segment of left record i at a cut, where the first `used` places are in use.
 pub fn divide_segment(
@@ -18,13 +18,11 @@ pub fn divide_segment(
     used: u32,
     i: u32,
     cut: Point,
-) -> Division
+) -> Result<Divided, Refusal>
     ensures { outcome result (pool points.new marks.new) ≡ divide_segment (pool points.old marks.old) used i cut }
 {
-    match check_one_in(points, marks, used, i) {
-        Check::Refused(refusal) => Division::Refused(refusal),
-        Check::Passed => division::divide_segment(points, marks, used, i, cut),
-    }
+    check_one_in(points, marks, used, i)?;
+    division::divide_segment(points, marks, used, i, cut)
 }
 
 // Cuts the segments of two left records where they cross or overlap.
@@ -39,10 +37,10 @@ pub fn possible_intersection(
     ensures { meeting (pool points.new marks.new) result.used result.met ≡ possible_intersection mode (pool points.old marks.old) used a b }
 {
     match check_left_two_in(points, marks, used, a, b) {
-        Check::Refused(refusal) => Neighbours {
+        Err(refusal) => Neighbours {
             used: used,
-            met: Met::Refused(refusal),
+            met: Err(refusal),
         },
-        Check::Passed => neighbours::possible_intersection(points, marks, used, a, b, mode),
+        Ok(()) => neighbours::possible_intersection(points, marks, used, a, b, mode),
     }
 }

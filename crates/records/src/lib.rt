@@ -6,37 +6,23 @@ ghost use Rattle.events.specs.Pool.{pool};
 ghost use Rattle.checks.specs.OnPool.{checked_left_named};
 ghost use Rattle.records.specs.Records.{is_before, compare_segments, compute_fields, named_with, outcome};
 
-use checks::{Check, check_left_one, check_left_two, check_two};
+use checks::{check_left_one, check_left_two, check_two};
 use class::Operation;
 use class::on_pool::compute_fields_at;
-use events::Link;
 use order::before_at;
 use refusals::Refusal;
-use segments::{Ordering, compare_segments_at};
+use segments::compare_segments_at;
+use std::cmp::Ordering;
 
 pub mod dividing;
 mod in_use;
 
-#[derive(Clone, Copy)]
-pub enum Before {
-    Refused(Refusal),
-    Told(bool),
-}
-
 // Whether record a comes before record b in event order; both ways for a tie.
-pub fn is_before(points: &[[u64; 2]], marks: &[[u32; 12]], a: u32, b: u32) -> Before
+pub fn is_before(points: &[[u64; 2]], marks: &[[u32; 12]], a: u32, b: u32) -> Result<bool, Refusal>
     ensures { result ≡ is_before (pool points.now marks.now) a b }
 {
-    match check_two(points, marks, a, b) {
-        Check::Refused(refusal) => Before::Refused(refusal),
-        Check::Passed => Before::Told(before_at(points, marks, a, b)),
-    }
-}
-
-#[derive(Clone, Copy)]
-pub enum Compared {
-    Refused(Refusal),
-    Told(Ordering),
+    check_two(points, marks, a, b)?;
+    Ok(before_at(points, marks, a, b))
 }
 
 // Where the segment of left record a stands to that of left record b.
@@ -46,28 +32,25 @@ pub fn compare_segments(
     a: u32,
     b: u32,
     mode: u32,
-) -> Compared
+) -> Result<Ordering, Refusal>
     ensures { result ≡ compare_segments mode (pool points.now marks.now) a b }
 {
-    match check_left_two(points, marks, a, b) {
-        Check::Refused(refusal) => Compared::Refused(refusal),
-        Check::Passed => Compared::Told(compare_segments_at(points, marks, a, b, mode)),
-    }
-}
-
-#[derive(Clone, Copy)]
-pub enum Computed {
-    Refused(Refusal),
-    Done,
+    check_left_two(points, marks, a, b)?;
+    Ok(compare_segments_at(points, marks, a, b, mode))
 }
 
 // The left record e, then the lower neighbour where there is one.
-fn check_with(points: &[[u64; 2]], marks: &[[u32; 12]], e: u32, lower: Link) -> Check
+fn check_with(
+    points: &[[u64; 2]],
+    marks: &[[u32; 12]],
+    e: u32,
+    lower: Option<u32>,
+) -> Result<(), Refusal>
     ensures { result ≡ checked_left_named (pool points.now marks.now) (named_with e lower) }
 {
     match lower {
-        Link::None => check_left_one(points, marks, e),
-        Link::To(n) => check_left_two(points, marks, e, n),
+        None => check_left_one(points, marks, e),
+        Some(n) => check_left_two(points, marks, e, n),
     }
 }
 
@@ -76,16 +59,12 @@ pub fn compute_fields(
     points: &mut [[u64; 2]],
     marks: &mut [[u32; 12]],
     e: u32,
-    lower: Link,
+    lower: Option<u32>,
     operation: Operation,
-) -> Computed
+) -> Result<(), Refusal>
     ensures { outcome result (pool points.new marks.new) ≡ compute_fields operation (pool points.old marks.old) e lower }
 {
-    match check_with(points, marks, e, lower) {
-        Check::Refused(refusal) => Computed::Refused(refusal),
-        Check::Passed => {
-            compute_fields_at(points, marks, e, lower, operation);
-            Computed::Done
-        }
-    }
+    check_with(points, marks, e, lower)?;
+    compute_fields_at(points, marks, e, lower, operation);
+    Ok(())
 }

@@ -1,9 +1,8 @@
 // The cases. Where a case does not say otherwise, the pool has six places, a is record 0 and b record 2; 1 and 3 are their partners.
-use crate::bits::*;
-use crate::pools::{At, BELOW, LEFT, LINKED, NOWHERE, PARTNER, X, Y};
 use crate::{pools, told};
-use events::Link;
 use std::io;
+use test_pools::bits::*;
+use test_pools::changes::{At, BELOW, LEFT, LINKED, NOWHERE, PARTNER, X, Y, change};
 
 const LAST: u32 = 0xffff_ffff;
 
@@ -17,7 +16,7 @@ fn lend(
     n: usize,
     m: usize,
     a: u32,
-    b: Link,
+    b: Option<u32>,
 ) -> io::Result<()> {
     if n <= points.len() && m <= marks.len() {
         told::entries(rt, &mut points[..n], &mut marks[..m], a, b)?;
@@ -33,35 +32,34 @@ fn case(
     first: At,
     second: At,
     a: u32,
-    b: Link,
+    b: Option<u32>,
 ) -> io::Result<()> {
     let mut points = pools::points();
     let mut marks = pools::marks();
-    pools::change(&mut points, &mut marks, first);
-    pools::change(&mut points, &mut marks, second);
+    change(&mut points, &mut marks, first);
+    change(&mut points, &mut marks, second);
     let kept_points = points;
     let kept_marks = marks;
-    told::say(rt, label)?;
-    told::say(rt, ":")?;
+    print!(rt; "{label}:")?;
     lend(rt, &mut points, &mut marks, n, m, a, b)?;
-    if pools::is_same(&points, &marks, &kept_points, &kept_marks) {
-        told::say(rt, ", as lent\n")
+    if points == kept_points && marks == kept_marks {
+        rt.print(", as lent\n")
     } else {
-        told::say(rt, ", changed\n")
+        rt.print(", changed\n")
     }
 }
 
 // The places of both arrays.
-fn sized(rt: &impl Print, label: &str, n: usize, m: usize, change: At) -> io::Result<()> {
-    case(rt, label, n, m, change, NOWHERE, 0, Link::To(2))
+fn sized(rt: &impl Print, label: &str, n: usize, m: usize, first: At) -> io::Result<()> {
+    case(rt, label, n, m, first, NOWHERE, 0, Some(2))
 }
 
 fn changed(rt: &impl Print, label: &str, first: At, second: At) -> io::Result<()> {
-    case(rt, label, 6, 6, first, second, 0, Link::To(2))
+    case(rt, label, 6, 6, first, second, 0, Some(2))
 }
 
 fn named(rt: &impl Print, label: &str, a: u32, b: u32, first: At, second: At) -> io::Result<()> {
-    case(rt, label, 6, 6, first, second, a, Link::To(b))
+    case(rt, label, 6, 6, first, second, a, Some(b))
 }
 
 // Refusals 1 and 2.
@@ -216,8 +214,8 @@ pub fn several(rt: &impl Print) -> io::Result<()> {
     Ok(())
 }
 
-fn alone(rt: &impl Print, label: &str, e: u32, change: At) -> io::Result<()> {
-    case(rt, label, 6, 6, change, NOWHERE, e, Link::None)
+fn alone(rt: &impl Print, label: &str, e: u32, first: At) -> io::Result<()> {
+    case(rt, label, 6, 6, first, NOWHERE, e, None)
 }
 
 // The class of an edge above nothing.

@@ -1,7 +1,6 @@
 // Every way of 01 in which records are invalid: what the entries on single records tell, and whether all that was lent is as lent.
 #![tactic(auto)]
 
-mod bits;
 mod cases;
 mod pools;
 mod told;

@@ -1,19 +1,9 @@
 // What each entry tells, written.
 use class::Operation;
 use crossing::PLAIN;
-use events::Link;
-use records::{Before, Compared, Computed};
-use refusals::Refusal;
-use segments::Ordering;
+use std::cmp::Ordering;
 use std::io;
-
-pub fn say(rt: &impl Print, text: &str) -> io::Result<()> {
-    rt.print(text)
-}
-
-fn refused(rt: &impl Print, refusal: Refusal) -> io::Result<()> {
-    print!(rt; "refused {} at {}", refusal.number, refusal.place)
-}
+use test_pools::told::refused;
 
 fn before(
     rt: &impl Print,
@@ -22,14 +12,14 @@ fn before(
     a: u32,
     b: u32,
 ) -> io::Result<()> {
-    say(rt, " before ")?;
+    rt.print(" before ")?;
     match records::is_before(points, marks, a, b) {
-        Before::Refused(refusal) => refused(rt, refusal),
-        Before::Told(is_before) => {
+        Err(refusal) => refused(rt, refusal),
+        Ok(is_before) => {
             if is_before {
-                say(rt, "yes")
+                rt.print("yes")
             } else {
-                say(rt, "no")
+                rt.print("no")
             }
         }
     }
@@ -42,13 +32,13 @@ fn segments(
     a: u32,
     b: u32,
 ) -> io::Result<()> {
-    say(rt, ", segments ")?;
+    rt.print(", segments ")?;
     match records::compare_segments(points, marks, a, b, PLAIN) {
-        Compared::Refused(refusal) => refused(rt, refusal),
-        Compared::Told(order) => match order {
-            Ordering::Less => say(rt, "less"),
-            Ordering::Equal => say(rt, "equal"),
-            Ordering::Greater => say(rt, "greater"),
+        Err(refusal) => refused(rt, refusal),
+        Ok(order) => match order {
+            Ordering::Less => rt.print("less"),
+            Ordering::Equal => rt.print("equal"),
+            Ordering::Greater => rt.print("greater"),
         },
     }
 }
@@ -58,12 +48,12 @@ fn fields(
     points: &mut [[u64; 2]],
     marks: &mut [[u32; 12]],
     e: u32,
-    lower: Link,
+    lower: Option<u32>,
 ) -> io::Result<()> {
-    say(rt, " fields ")?;
+    rt.print(" fields ")?;
     match records::compute_fields(points, marks, e, lower, Operation::Union) {
-        Computed::Refused(refusal) => refused(rt, refusal),
-        Computed::Done => say(rt, "done"),
+        Err(refusal) => refused(rt, refusal),
+        Ok(()) => rt.print("done"),
     }
 }
 
@@ -73,12 +63,12 @@ pub fn entries(
     points: &mut [[u64; 2]],
     marks: &mut [[u32; 12]],
     a: u32,
-    b: Link,
+    b: Option<u32>,
 ) -> io::Result<()> {
-    if let Link::To(n) = b {
+    if let Some(n) = b {
         before(rt, points, marks, a, n)?;
         segments(rt, points, marks, a, n)?;
-        say(rt, ",")?;
+        rt.print(",")?;
     }
     fields(rt, points, marks, a, b)
 }

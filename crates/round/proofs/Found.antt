@@ -1,7 +1,7 @@
 -- What a search through lists one after the other finds: the first that finds anything tells.
-use mathlib.Core.Path.{◌≡◌, refl, sym, ap, ◌∙◌}
+use Rattle.std.proofs.Common.{Some}
+use mathlib.Core.Path.{◌≡◌, refl, ap}
 use mathlib.Core.Bool.{Bool, true, false, cond}
-use mathlib.Core.Option.{some}
 use mathlib.Core.List.{List, [], ◌∷◌, ◌++◌}
 use Prim.Native.Nat.{ℕ, ◌≤◌, ◌<◌}
 use native.Mathlib.Omega.{arith}
@@ -23,47 +23,35 @@ open_in ms i h = go (dec_lt i (length ms))
         absurd (omega arith)
 
 module _ (ms : List ℕ) where
-  abbrev tells : List ℕ → ℕ
+  abbrev pub tells : List ℕ → ℕ
   tells l = found (length ms) (seek ms l)
 
-  tells_first : (a b : List ℕ) → tells a < length ms → tells (a ++ b) ≡ tells a
+  pub tells_first : (a b : List ℕ) → tells a < length ms → tells (a ++ b) ≡ tells a
   unfolding found seek
   tells_first [] b h = absurd (omega arith)
   tells_first (x ∷ a) b h = go (is_open (get_or ms x 1)) h (tells_first a b)
     where
-      go : (o : Bool) → found (length ms) (cond o (some x) (seek ms a)) < length ms → (tells a < length ms → tells (a ++ b) ≡ tells a)
-          → found (length ms) (cond o (some x) (seek ms (a ++ b))) ≡ found (length ms) (cond o (some x) (seek ms a))
+      go : (o : Bool) → found (length ms) (cond o (Some x) (seek ms a)) < length ms → (tells a < length ms → tells (a ++ b) ≡ tells a)
+          → found (length ms) (cond o (Some x) (seek ms (a ++ b))) ≡ found (length ms) (cond o (Some x) (seek ms a))
       go true l r = refl
       go false l r = r l
 
-  tells-next : (a b : List ℕ) → length ms ≤ tells a → tells (a ++ b) ≡ tells b
+  pub tells_next : (a b : List ℕ) → length ms ≤ tells a → tells (a ++ b) ≡ tells b
   unfolding found seek
-  tells-next [] b h = refl
-  tells-next (x ∷ a) b h = go (is_open (get_or ms x 1)) refl h (tells-next a b)
+  tells_next [] b h = refl
+  tells_next (x ∷ a) b h = go (is_open (get_or ms x 1)) refl h (tells_next a b)
     where
-      go : (o : Bool) → is_open (get_or ms x 1) ≡ o → length ms ≤ found (length ms) (cond o (some x) (seek ms a)) → (length ms ≤ tells a → tells (a ++ b) ≡ tells b)
-          → found (length ms) (cond o (some x) (seek ms (a ++ b))) ≡ tells b
+      go : (o : Bool) → is_open (get_or ms x 1) ≡ o → length ms ≤ found (length ms) (cond o (Some x) (seek ms a)) → (length ms ≤ tells a → tells (a ++ b) ≡ tells b)
+          → found (length ms) (cond o (Some x) (seek ms (a ++ b))) ≡ tells b
       go true e l r = absurd (omega (arith, open_in ms x e))
       go false e l r = r l
 
-  -- of three lists
-  module _ (a b c : List ℕ) (x : ℕ) (e : x ≡ tells a) where
-    pub in-first : x < length ms → x ≡ tells (a ++ (b ++ c))
-    in-first h = e ∙ sym (tells_first a (b ++ c) (rw e at h))
-
-    module _ (h : length ms ≤ x) (y : ℕ) (f : y ≡ tells b) where
-      pub in-next : y < length ms → y ≡ tells (a ++ (b ++ c))
-      in-next g = f ∙ sym (tells_first b c (rw f at g)) ∙ sym (tells-next a (b ++ c) (rw e at h))
-
-      pub in-last : length ms ≤ y → (z : ℕ) → z ≡ tells c → z ≡ tells (a ++ (b ++ c))
-      in-last g z k = k ∙ sym (tells-next b c (rw f at g)) ∙ sym (tells-next a (b ++ c) (rw e at h))
-
 -- what is found is open
-pub seek-in : (ms l : List ℕ) (j : ℕ) → seek ms l ≡ some j → j < length ms
+pub seek-in : (ms l : List ℕ) (j : ℕ) → seek ms l ≡ Some j → j < length ms
 unfolding seek
 seek-in ms [] j e = let z : ◌≡◌ {A = ℕ} 0 1 = cc in absurd (omega arith)
 seek-in ms (x ∷ l) j e = go (is_open (get_or ms x 1)) refl e (seek-in ms l j)
   where
-    go : (o : Bool) → is_open (get_or ms x 1) ≡ o → cond o (some x) (seek ms l) ≡ some j → (seek ms l ≡ some j → j < length ms) → j < length ms
+    go : (o : Bool) → is_open (get_or ms x 1) ≡ o → cond o (Some x) (seek ms l) ≡ Some j → (seek ms l ≡ Some j → j < length ms) → j < length ms
     go true q e h = let z : x ≡ j = cc in omega (arith, open_in ms x q)
     go false q e h = h e

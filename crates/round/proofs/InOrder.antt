@@ -19,7 +19,7 @@ use Rattle.contours.specs.Round.{down, rights, lefts, tries}
 use Rattle.rows.specs.Rows.{Rows, size, point_in, point_at, end_at, table_row, row_of}
 use Rattle.round.specs.Block.{block_start, block_end, stands, in_order}
 use Rattle.round.specs.Round.{right_ends, left_ends, tries_in, around, tried}
-use Rattle.round.proofs.Round.{tries-all}
+use Rattle.round.proofs.Round.{all_tried}
 
 -- ---- a run of positions, kept by a test that fails at both its ends
 
@@ -276,7 +276,7 @@ module _ (t : Rows) (o : in_order t.at 0 (size t) ≡ true) where
         ap₂ (cond (end_at t q).left)
         (sym (ap₂ ◌++◌ left-low (ap₂ ◌++◌ right-all left-high)))
         (sym (ap₂ ◌++◌ right-high (ap₂ ◌++◌ left-all right-low)))
-        ∙ tries-all t q
+        ∙ all_tried t (point_at t q) (size t) q refl refl
 
   tried-near : (q : ℕ) → tried t true q ≡ tries (same at_binary64) (size t) (table_row t) q
   unfolding tried

@@ -1,8 +1,7 @@
 -- The definition's searches (`contours.specs.Round`) over the table in lent arrays. What is not found is told as the number of marks: no position
 -- beyond them is open, so that no answer means two things.
-use Rattle.std.specs.Prelude.{Bool, false, cond, ◌&&◌, List, ◌++◌, ℕ, ◌+◌, ◌-◌, ltb, length, get_or}
+use Rattle.std.specs.Prelude.{Bool, false, cond, ◌&&◌, List, ◌++◌, ℕ, ◌+◌, ◌-◌, ltb, length, get_or, Option, None, Some}
 use Rattle.std.specs.Bool.{beq}
-use Rattle.std.proofs.Math.Option.{Option, none, some}
 use Rattle.numbers.specs.declared.Point.{Point}
 use Rattle.events.specs.Coordinates.{same}
 use Rattle.events.specs.Binary64.{at_binary64}
@@ -12,8 +11,8 @@ use Rattle.round.specs.Block.{block_start, block_end}
 
 -- a position, or the number m for none
 unfoldable pub found : ℕ → Option ℕ → ℕ
-found m none = m
-found m (some i) = i
+found m None = m
+found m (Some i) = i
 
 unfoldable pub mark_in : List ℕ → ℕ → ℕ
 mark_in ms i = get_or ms i 1

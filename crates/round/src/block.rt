@@ -7,38 +7,35 @@ use numbers::Point;
 use rows::point_at;
 
 // The first of the rows straight below i that have the point p.
+#[tactic(auto, using(crate::proofs::Blocks::start_more, crate::proofs::Blocks::start_none))]
 pub fn block_start(at: &[[u64; 2]], p: Point, i: usize) -> usize
     ensures { result ≡ block_start at.now p i }
 {
-    let mut j = i;
-    while j > 0 {
-        let q = point_at(at, j - 1);
-        if same_point(p, q) {
-            j -= 1;
-        } else {
-            return j;
+    for j in (0..i).rev() {
+        let q = point_at(at, j);
+        if !same_point(p, q) {
+            return j + 1;
         }
     }
-    j
+    0
 }
 
 // Where the rows from i on that have the point p end, at e at the latest.
+#[tactic(auto, using(crate::proofs::Blocks::end_more, crate::proofs::Blocks::end_none))]
 pub fn block_end(at: &[[u64; 2]], p: Point, i: usize, e: usize) -> usize
     ensures { result ≡ block_end at.now p i (e - i) }
 {
-    let mut j = i;
-    while j < e {
+    for j in i..e {
         let q = point_at(at, j);
-        if same_point(p, q) {
-            j += 1;
-        } else {
+        if !same_point(p, q) {
             return j;
         }
     }
-    j
+    i.max(e)
 }
 
 // The point at i is not ahead of the one below it.
+#[tactic(auto, using(crate::proofs::Blocks::stands_more, crate::proofs::Blocks::stands_none))]
 fn stands_at(at: &[[u64; 2]], i: usize) -> bool
     ensures { result ≡ stands at.now i }
 {
@@ -54,13 +51,5 @@ fn stands_at(at: &[[u64; 2]], i: usize) -> bool
 pub fn in_order(at: &[[u64; 2]], n: usize) -> bool
     ensures { result ≡ in_order at.now 0 n }
 {
-    let mut i = 0;
-    while i < n {
-        if stands_at(at, i) {
-            i += 1;
-        } else {
-            return false;
-        }
-    }
-    true
+    (0..n).all(|i| stands_at(at, i))
 }

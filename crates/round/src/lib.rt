@@ -14,16 +14,15 @@ use rows::{end_at, point_at};
 pub mod block;
 
 // One outside the marks counts as walked.
+#[tactic(auto, unfolding(crate::specs::Round::mark_in))]
 pub fn mark_at(marks: &[u32], i: usize) -> u32
     ensures { result ≡ mark_in marks.now i }
 {
-    if i < marks.len() {
-        return marks[i];
-    }
-    1
+    marks.get(i).copied().unwrap_or(1)
 }
 
 // The end at i is a left end, or a right end, at the point p, and open.
+#[tactic(auto, using(crate::proofs::Round::open_no, crate::proofs::Round::open_yes), unfolding(crate::specs::Round::fitting))]
 fn fits(rows: &[[u32; 4]], at: &[[u64; 2]], marks: &[u32], p: Point, left: bool, i: usize) -> bool
     ensures { result ≡ fitting (lent rows.now at.now) marks.now p left i }
 {
@@ -39,20 +38,20 @@ fn fits(rows: &[[u32; 4]], at: &[[u64; 2]], marks: &[u32], p: Point, left: bool,
 }
 
 // The first open right end at p from i up to and not with e.
+#[tactic(auto, using(crate::proofs::Round::up_more, crate::proofs::Round::up_none))]
 fn seek_up(rows: &[[u32; 4]], at: &[[u64; 2]], marks: &[u32], p: Point, i: usize, e: usize) -> usize
     ensures { result ≡ rights_from (lent rows.now at.now) marks.now p i (e - i) }
 {
-    let mut j = i;
-    while j < e {
+    for j in i..e {
         if fits(rows, at, marks, p, false, j) {
             return j;
         }
-        j += 1;
     }
     marks.len()
 }
 
 // The last open left end at p from i up to and not with e.
+#[tactic(auto, using(crate::proofs::Round::down_more, crate::proofs::Round::down_none))]
 fn seek_down(
     rows: &[[u32; 4]],
     at: &[[u64; 2]],
@@ -63,9 +62,7 @@ fn seek_down(
 ) -> usize
     ensures { result ≡ lefts_from (lent rows.now at.now) marks.now p i (e - i) }
 {
-    let mut j = e;
-    while i < j {
-        j -= 1;
+    for j in (i..e).rev() {
         if fits(rows, at, marks, p, true, j) {
             return j;
         }
@@ -74,6 +71,7 @@ fn seek_down(
 }
 
 // From a left end at q, among the rows from lo up to and not with hi.
+#[tactic(auto, using(crate::proofs::Found::tells_first, crate::proofs::Found::tells_next), unfolding(crate::specs::Round::from_left, crate::specs::Round::lefts_from, crate::specs::Round::rights_from))]
 fn from_left(
     rows: &[[u32; 4]],
     at: &[[u64; 2]],
@@ -98,6 +96,7 @@ fn from_left(
 }
 
 // From a right end at q.
+#[tactic(auto, using(crate::proofs::Found::tells_first, crate::proofs::Found::tells_next), unfolding(crate::specs::Round::from_right, crate::specs::Round::lefts_from, crate::specs::Round::rights_from))]
 fn from_right(
     rows: &[[u32; 4]],
     at: &[[u64; 2]],
@@ -122,6 +121,7 @@ fn from_right(
 }
 
 // From the end at q, at the point p.
+#[tactic(auto, unfolding(crate::specs::Round::next_in, crate::specs::Round::tries_in, crate::specs::Round::from_left, crate::specs::Round::from_right))]
 fn next_in(
     rows: &[[u32; 4]],
     at: &[[u64; 2]],
@@ -142,6 +142,7 @@ fn next_in(
 }
 
 // The next open end round the point of the end at q: by all rows, or, where near, by those around q that have its point.
+#[tactic(auto, using(crate::proofs::Round::all_tried), unfolding(crate::specs::Round::next_pos, crate::specs::Round::tried, crate::specs::Round::around, crate::specs::Round::next_in))]
 pub fn next_pos(rows: &[[u32; 4]], at: &[[u64; 2]], marks: &[u32], near: bool, q: u32) -> usize
     ensures { result ≡ next_pos (lent rows.now at.now) near marks.now q }
 {

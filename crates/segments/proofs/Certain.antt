@@ -1,6 +1,7 @@
 -- Where the tests in plain comparisons pass, they tell which segment is below: the newer one's left end lies exactly on the side that they say,
 -- and no crossing says otherwise.
 use mathlib.Core.Path.{◌≡◌, refl, ◌∙◌}
+use Rattle.std.specs.declared.cmp.Ordering.TheVariants.{Greater, Less}
 use mathlib.Core.Bool.{Bool, true, false, not, cond, ◌&&◌, beq, false≢true}
 use Prim.Native.Nat.{◌<◌, ◌≤◌}
 use borrow.Author.Tests.{le-ltb}
@@ -13,7 +14,6 @@ use Rattle.order.specs.Order.{by_number, before, is_zero}
 use Rattle.order.proofs.Steps.{sign-positive, sign-negative}
 use Rattle.order.proofs.Grid.{Spot, grid, plus, minus}
 use Rattle.order.proofs.Laws.{OrderLaws}
-use Rattle.segments.specs.declared.Ordering.TheVariants.{Less, Greater}
 use Rattle.segments.specs.Segments.{is_positive, less_if_inversed, by_crossing, apart, old_below, compare_segments}
 use Rattle.segments.specs.Quick.{beside, lies_under}
 use Rattle.segments.proofs.Heights as Heights

@@ -1,10 +1,10 @@
 -- Segment order of two records of a pool, at binary64 with the crossing of a mode.
 use Rattle.std.specs.Prelude.{cond, ℕ, eqb}
+use Rattle.std.specs.declared.cmp.Ordering.{Ordering}
+use Rattle.std.specs.declared.cmp.Ordering.TheVariants.{Equal}
 use Rattle.events.specs.Binary64.{at_binary64, in_mode}
 use Rattle.events.specs.Pool.{Pool}
 use Rattle.order.specs.Keys.{key_at}
-use Rattle.segments.specs.declared.Ordering.{Ordering}
-use Rattle.segments.specs.declared.Ordering.TheVariants.{Equal}
 use Rattle.segments.specs.Segments.{compare_segments}
 
 -- a record is equal to itself, and to no other

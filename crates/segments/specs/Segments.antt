@@ -1,14 +1,14 @@
 -- Segment order (01, 'Segment order': as the source). Of two left records the one that comes first in event order is the older; where the newer one's
 -- ends lie, seen along the older one, tells which is below. It is no order in the strict sense: it need not be transitive.
 use Rattle.std.specs.Prelude.{Bool, true, false, cond, ◌&&◌, ltb}
+use Rattle.std.specs.declared.cmp.Ordering.{Ordering}
+use Rattle.std.specs.declared.cmp.Ordering.TheVariants.{Greater, Less}
 use Rattle.std.specs.Bool.{beq}
 use Rattle.orientation.specs.declared.Sign.{Sign}
 use Rattle.orientation.specs.declared.Sign.TheVariants.{Negative, Zero, Positive}
 use Rattle.events.specs.Coordinates.{Coordinates, same, Cross, none, lost, point, overlap, Crossing}
 use Rattle.events.specs.Event.{Key}
 use Rattle.order.specs.Order.{before, is_zero}
-use Rattle.segments.specs.declared.Ordering.{Ordering}
-use Rattle.segments.specs.declared.Ordering.TheVariants.{Less, Greater}
 
 -- `less_if` of true is "less", `less_if_inversed` the reverse
 unfoldable pub less_if : Bool → Ordering

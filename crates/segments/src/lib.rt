@@ -16,13 +16,7 @@ use events::points::{Meeting, crossing, is_under, less_x, less_y, same_point, sa
 use order::{Key, before, is_zero, key_at};
 use orientation::Sign;
 use quick::is_beside;
-
-#[derive(Clone, Copy)]
-pub enum Ordering {
-    Less,
-    Equal,
-    Greater,
-}
+use std::cmp::Ordering;
 
 fn less_if(condition: bool) -> Ordering
     ensures { result ≡ less_if condition }
@@ -44,14 +38,11 @@ fn less_if_inversed(condition: bool) -> Ordering
     }
 }
 
+#[tactic(auto, unfolding(crate::specs::Segments::is_positive))]
 fn is_positive(sign: Sign) -> bool
     ensures { result ≡ is_positive sign }
 {
-    match sign {
-        Sign::Positive => true,
-        Sign::Zero => false,
-        Sign::Negative => false,
-    }
+    sign == Sign::Positive
 }
 
 // Of two segments on one line: subject below clip; in one layer by ring from a shared end, else the older below.
@@ -120,46 +111,35 @@ fn old_is_below(old: Key, new: Key, mode: u32) -> bool
     old_is_below_off_line(old, new, sa_l, sa_r, mode)
 }
 
-// What the boxes of two segments are certain of.
-#[derive(Clone, Copy)]
-enum ByBoxes {
-    Less,
-    Greater,
-    Open,
-}
-
 // Where b is the older one and the boxes lie apart in y, they tell how a compares to it, in every mode.
-fn by_boxes(a: Key, b: Key) -> ByBoxes
+fn by_boxes(a: Key, b: Key) -> Option<Ordering>
     ensures { result ≡ by_boxes at_binary64 (shown_key a) (shown_key b) }
 {
     if is_beside(b, a) {
         if is_under(b.point, b.mate, a.point, a.mate) {
-            return ByBoxes::Greater;
+            return Some(Ordering::Greater);
         }
         // at one x the lower one is the older
         if less_x(b.point, a.point) {
             if is_under(a.point, a.mate, b.point, b.mate) {
-                return ByBoxes::Less;
+                return Some(Ordering::Less);
             }
         }
     }
-    ByBoxes::Open
+    None
 }
 
 // Of two left records that are not one: the one that comes first in event order is the older.
 pub fn compare_segments(a: Key, b: Key, mode: u32) -> Ordering
     ensures { result ≡ Segments.compare_segments at_binary64 (in_mode mode) (shown_key a) (shown_key b) }
 {
-    match by_boxes(a, b) {
-        ByBoxes::Less => Ordering::Less,
-        ByBoxes::Greater => Ordering::Greater,
-        ByBoxes::Open => {
-            if before(a, b) {
-                return less_if(old_is_below(a, b, mode));
-            }
-            less_if_inversed(old_is_below(b, a, mode))
-        }
+    if let Some(ordering) = by_boxes(a, b) {
+        return ordering;
     }
+    if before(a, b) {
+        return less_if(old_is_below(a, b, mode));
+    }
+    less_if_inversed(old_is_below(b, a, mode))
 }
 
 // The same of two records of a pool; a record is equal to itself.

@@ -1,17 +1,18 @@
 -- What the lent arrays hold in the end: a refused sheet changes nothing, and the rows of an accepted one are copied, or stored in another form.
+use Rattle.std.proofs.Common.{Ok, Err, Result}
 use mathlib.Core.Path.{◌≡◌, refl, sym, ap, ◌∙◌}
-use mathlib.Core.List.{List, ◌++◌, map}
-use Prim.Native.Nat.{ℕ, ◌+◌, ◌-◌, ◌≤◌, ◌<◌}
+use mathlib.Core.List.{List, [], ◌∷◌, ◌++◌, map}
+use Prim.Native.Nat.{ℕ, suc, ◌+◌, ◌-◌, ◌≤◌, min}
 use native.Mathlib.Omega.{arith}
-use native.Mathlib.Numerals.{add-one}
-use lib.ListN.{length, get_or, set, take, drop, length-map, length-append, drop_of_length-le}
-use lib.Seq.{sets, drop-cons, take-take, take-add, take_at, drop_at}
+use lib.ListN.{length, set, take, drop, length-map, length-append}
+use Rattle.std.proofs.lemmas.List.{take_min, drop_min}
+use lib.Seq.{sets, take-take, take-add, take_at, drop_at}
 use Rattle.class.specs.declared.Operation.{Operation}
 use Rattle.refusals.specs.declared.Refusal.{Refusal}
 use Rattle.lists.proofs.Fronts.{first-are}
 use Rattle.sheet.specs.declared.edges.Edge.{Edge}
-use Rattle.sheet.specs.declared.Told.{Told}
-use Rattle.sheet.specs.declared.Told.TheVariants.{Read, Refused as ToldRefused}
+use Rattle.sheet.specs.declared.Counts.{Counts}
+use Rattle.refusals.specs.declared.Refusal.{Refusal}
 use Rattle.sheet.specs.Sheet.{Sheet, Fits}
 use Rattle.sheet.specs.Reading.{Reading, Accepted, Refused, read_sheet}
 use Rattle.sheet.specs.Shown.{told}
@@ -20,14 +21,27 @@ use Rattle.sheet.proofs.Puts.{put_both}
 use Rattle.sheet.proofs.Sheets.{describes}
 use Rattle.sheet.proofs.Stored.{ends-of-rows, labels-of-rows}
 
--- ---- rows copied one after the other: what is left of them, stored further on, gives the whole copy
+-- ---- rows copied to the first places, as far as there are any
 
-module _ {A : Type 0} (z : A) (b whole : List A) (i : ℕ) (rows : List A) (inv : sets b i (drop i rows) ≡ whole) where
-  pub copy-again : i < length rows → (c : List A) → c ≡ set b i (get_or rows i z) → sets c (i + 1) (drop (i + 1) rows) ≡ whole
-  copy-again h c g = rw (g, add-one) (rw (drop-cons rows i z h) at inv)
+module _ {A : Type 0} where
+  sets-none : (i : ℕ) (l : List A) → sets [] i l ≡ []
+  sets-none i [] = refl
+  sets-none i (v ∷ l) = sets-none (suc i) l
 
-  pub copy-end : length rows ≤ i → b ≡ whole
-  copy-end h = rw (drop_of_length-le rows {i = i} h) at inv
+  sets-behind : (a : A) (b : List A) (i : ℕ) (l : List A) → sets (a ∷ b) (suc i) l ≡ a ∷ sets b i l
+  sets-behind a b i [] = refl
+  sets-behind a b i (v ∷ l) = sets-behind a (set b i v) (suc i) l
+
+  copied-front : (b l : List A) → take (length b) l ++ drop (length l) b ≡ sets b 0 l
+  copied-front [] [] = refl
+  copied-front [] (v ∷ l) = sym (sets-none 1 l)
+  copied-front (a ∷ b) [] = refl
+  copied-front (a ∷ b) (v ∷ l) = rw (sets-behind v b 0 l) (ap (λ (m : List A). v ∷ m) (copied-front b l))
+
+  pub copied : (b l c : List A) (n : ℕ) → n ≡ min (length b) (length l) → c ≡ take n l → c ++ drop n b ≡ sets b 0 l
+  copied b l c n e f =
+      let m : min (length b) (length l) ≡ min (length l) (length b) = omega arith in
+      rw (f, ap (λ (k : ℕ). drop k b) (e ∙ m), drop_min, ap (λ (k : ℕ). take k l) e, take_min) (copied-front b l)
 
 -- ---- the answer decides
 
@@ -40,30 +54,39 @@ pub record Was (b : List ℕ) (o : Operation) (n m : ℕ) : Type 0 where
   pub clip : m ≡ length sheet.clip
   pub fits : Fits sheet
 
-module _ (b : List ℕ) (x : Told) (h : x ≡ told (read_sheet b)) where
-  pub was-refused : (q : Refusal) → x ≡ ToldRefused q → read_sheet b ≡ Refused q.number q.place
+module _ (b : List ℕ) (x : Result Counts Refusal) (h : x ≡ told (read_sheet b)) where
+  pub was-refused : (q : Refusal) → x ≡ Err q → read_sheet b ≡ Refused q.reason q.place
   was-refused q e = go (read_sheet b) (sym e ∙ h)
     where
-      go : (r : Reading) → ToldRefused q ≡ told r → r ≡ Refused q.number q.place
+      go : (r : Reading) → Err q ≡ told r → r ≡ Refused q.reason q.place
       go (Accepted s) f = let z : ◌≡◌ {A = ℕ} 0 1 = cc in absurd (omega arith)
-      go (Refused number line) f =
-          let g : q ≡ record { number = number; place = line } = cc in rw g
+      go (Refused reason line) f =
+          let g : q ≡ record { reason = reason; place = line } = cc in rw g
 
-  pub rows-refused : (q : Refusal) → x ≡ ToldRefused q → (subject clip : List (List ℕ)) → left_rows (ToldRefused q) subject clip ≡ leave_rows (read_sheet b) subject clip
+  pub rows-refused : (q : Refusal) → x ≡ Err q → (subject clip : List (List ℕ)) → left_rows (Err q) subject clip ≡ leave_rows (read_sheet b) subject clip
   unfolding leave_rows
   rows-refused q e subject clip = rw (was-refused q e)
 
-  pub left-refused : (q : Refusal) → x ≡ ToldRefused q → (ends labels : List (List ℕ)) → left (ToldRefused q) ends labels ≡ leave (read_sheet b) ends labels
+  pub left-refused : (q : Refusal) → x ≡ Err q → (ends labels : List (List ℕ)) → left (Err q) ends labels ≡ leave (read_sheet b) ends labels
   unfolding leave
   left-refused q e ends labels = rw (was-refused q e)
 
-  module _ (o : Operation) (n m : ℕ) (e : x ≡ Read o n m) where
+  module _ (o : Operation) (n m : ℕ) (e : x ≡ Ok (record { operation = o; subject = n; clip = m })) where
     pub was : Was b o n m
     was = go (read_sheet b) refl (sym e ∙ h)
       where
-        go : (r : Reading) → read_sheet b ≡ r → Read o n m ≡ told r → Was b o n m
-        go (Accepted s) k f = record { sheet = s; accepted = k; operation = cc; subject = cc; clip = cc; fits = (describes b s k).1 }
-        go (Refused number line) k f = let z : ◌≡◌ {A = ℕ} 0 1 = cc in absurd (omega arith)
+        go : (r : Reading) → read_sheet b ≡ r → Ok (record { operation = o; subject = n; clip = m }) ≡ told r → Was b o n m
+        go (Accepted s) k f =
+            let g : record { operation = o; subject = n; clip = m } ≡ record { operation = s.operation; subject = length s.subject; clip = length s.clip } = cc in
+            record {
+              sheet = s;
+              accepted = k;
+              operation = ap (λ (x : Counts). x.operation) g;
+              subject = ap (λ (x : Counts). x.subject) g;
+              clip = ap (λ (x : Counts). x.clip) g;
+              fits = (describes b s k).1;
+            }
+        go (Refused reason line) k f = let z : ◌≡◌ {A = ℕ} 0 1 = cc in absurd (omega arith)
 
     pub read-within : (none own : ℕ) → none ≡ 256 → own ≡ none → n + m ≤ own
     read-within none own len kept = omega (arith, was.fits.few, was.subject, was.clip)
@@ -94,7 +117,7 @@ module _ (b : List ℕ) (x : Told) (h : x ≡ told (read_sheet b)) where
           ∙ drop_at (map row_of was.sheet.subject) (map row_of was.sheet.clip) n long
           )
 
-      pub rows-read : (subject subject' clip clip' : List (List ℕ)) → subject' ≡ sets subject 0 (take n own) → clip' ≡ sets clip 0 (take (n + m - n) (drop n own)) → left_rows (Read o n m) subject' clip' ≡ leave_rows (read_sheet b) subject clip
+      pub rows-read : (subject subject' clip clip' : List (List ℕ)) → subject' ≡ sets subject 0 (take n own) → clip' ≡ sets clip 0 (take (n + m - n) (drop n own)) → left_rows (Ok (record { operation = o; subject = n; clip = m })) subject' clip' ≡ leave_rows (read_sheet b) subject clip
       unfolding leave_rows
       rows-read subject subject' clip clip' g k = rw (was.accepted, g, k, subject-read, clip-read, ← was.operation, ← was.subject, ← was.clip)
 
@@ -103,7 +126,7 @@ module _ (b : List ℕ) (x : Told) (h : x ≡ told (read_sheet b)) where
       stored f g u v lent some all p q c d = put_both u v lent some all was.sheet.subject was.sheet.clip n was.subject (rw (subject-read, p) at c) (rw (clip-read, q) at d)
 
       module _ (ends ends1 ends2 labels labels1 labels2 : List (List ℕ)) where
-        pub sheet-read : ends1 ≡ sets ends 0 (map ends_of_row (take n own)) → ends2 ≡ sets ends1 n (map ends_of_row (take (n + m - n) (drop n own))) → labels1 ≡ sets labels 0 (map (labels_of_row 1) (take n own)) → labels2 ≡ sets labels1 n (map (labels_of_row 0) (take (n + m - n) (drop n own))) → left (Read o n m) ends2 labels2 ≡ leave (read_sheet b) ends labels
+        pub sheet-read : ends1 ≡ sets ends 0 (map ends_of_row (take n own)) → ends2 ≡ sets ends1 n (map ends_of_row (take (n + m - n) (drop n own))) → labels1 ≡ sets labels 0 (map (labels_of_row 1) (take n own)) → labels2 ≡ sets labels1 n (map (labels_of_row 0) (take (n + m - n) (drop n own))) → left (Ok (record { operation = o; subject = n; clip = m })) ends2 labels2 ≡ leave (read_sheet b) ends labels
         unfolding leave
         sheet-read ea eb la lb =
             let s = was.sheet in

@@ -1,4 +1,6 @@
 -- The line told is the first that is wrong: the lines before it are those of some sheet, and with it they are those of none.
+use Rattle.refusals.specs.declared.Reason.{Reason}
+use Rattle.refusals.specs.declared.Reason.TheVariants as Reason
 use mathlib.Core.Path.{◌≡◌, refl, sym, ap, ◌∙◌, subst}
 use mathlib.Core.List.{List, [], ◌∷◌, ◌++◌, append_assoc, append-nil}
 use Prim.Native.Nat.{ℕ, suc, ◌+◌, ◌-◌, ◌≤◌, ◌<◌}
@@ -17,7 +19,7 @@ use Rattle.sheet.proofs.Sheets.{accepts}
 use Rattle.sheet.proofs.Cuts.{Lines, lines_join, lines_none, operation-line, within-subject, within-clip, layer-lines, in-front}
 use Rattle.sheet.proofs.Stuck.{operation-alike, Stuck, stuck}
 
-broken : (o : Operation) (l : List Edge) (n a : ℕ) (s : Sheet) → after_clip o l (Broken n a) ≡ Accepted s → ⊥
+broken : (o : Operation) (l : List Edge) (n : Reason) (a : ℕ) (s : Sheet) → after_clip o l (Broken n a) ≡ Accepted s → ⊥
 unfolding after_clip
 broken o l n a s f = let z : ◌≡◌ {A = ℕ} 0 1 = cc in omega arith
 
@@ -54,7 +56,7 @@ at-operation b h =
       fits = record { subject = tt; clip = tt; few = omega arith };
       more = written (record { operation = Union; subject = []; clip = [] });
       begins = refl;
-      fails = λ y e s f. let w = operation-alike b y e h in let g : Refused 10 1 ≡ Accepted s = rw w at f in let z : ◌≡◌ {A = ℕ} 0 1 = cc in omega arith;
+      fails = λ y e s f. let w = operation-alike b y e h in let g : Refused Reason.Malformed 1 ≡ Accepted s = rw w at f in let z : ◌≡◌ {A = ℕ} 0 1 = cc in omega arith;
     }
 
 module _ (b : List ℕ) (o : Operation) (t : List ℕ) (h : operation_of b ≡ Got o t) where
@@ -154,7 +156,7 @@ module _ (b : List ℕ) (o : Operation) (t : List ℕ) (h : operation_of b ≡ G
         other [] e s f = let z : ◌≡◌ {A = ℕ} 0 1 = cc in omega arith
         other (d ∷ y) e s f = goes_on o l m d y s f
 
-cut : (b : List ℕ) (n at : ℕ) → read_sheet b ≡ Refused n at → Cut b at
+cut : (b : List ℕ) (n : Reason) (at : ℕ) → read_sheet b ≡ Refused n at → Cut b at
 unfolding read_sheet after_operation after_subject after_clip
 cut b n at e = operation (operation_of b) refl e
   where
@@ -210,7 +212,7 @@ module _ (b : List ℕ) (at : ℕ) (k : Cut b at) where
       let next : first_lines 1 y ≡ first_lines 1 k.rest = sym (drop-append_seam k.before (first_lines 1 y)) ∙ ap (drop (length k.before)) same ∙ drop-append_seam k.before (first_lines 1 k.rest) in
       k.fails y next g.sheet (ap read_sheet (sym split) ∙ accepts g.sheet g.fits)
 
-pub first-wrong : (b : List ℕ) (n at : ℕ) → read_sheet b ≡ Refused n at → (0 < at) × Begun (at - 1) b × (Begun at b → ⊥)
+pub first-wrong : (b : List ℕ) (n : Reason) (at : ℕ) → read_sheet b ≡ Refused n at → (0 < at) × Begun (at - 1) b × (Begun at b → ⊥)
 first-wrong b n at e =
     let k = cut b n at e in
     (omega (arith, k.told), begun-before b at k, none-with b at k)

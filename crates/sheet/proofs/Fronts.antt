@@ -1,4 +1,5 @@
 -- What is written in front is read, and what is read in front was written: words and numbers.
+use Rattle.std.proofs.Common.{None, Option, Some}
 use mathlib.Core.Path.{◌≡◌, refl, sym, ap, ◌∙◌}
 use mathlib.Core.Bool.{Bool, true, false, cond, ◌&&◌}
 use mathlib.Core.List.{List, [], ◌∷◌, ◌++◌, append_assoc}
@@ -10,8 +11,6 @@ use borrow.Author.Tests.{lt-ltb, le-ltb, ltb-true, ltb-false, eq-eqb, ne_eqb, eq
 use lib.Dec.{eqb, ltb}
 use lib.ListN.{length, get_or, drop, length-append}
 use lib.Seq.{drop_at, drop-append_seam, take-append_seam}
-use Rattle.text.specs.declared.digits.Read.{Read}
-use Rattle.text.specs.declared.digits.Read.TheVariants.{Value, Nothing}
 use Rattle.text.specs.Words.{bytes, begins}
 use Rattle.text.specs.Digits.{digit, digits, hex, places, decimal, value, hex_at, decimal_at}
 use Rattle.text.proofs.Writing.{digits-length}
@@ -56,21 +55,21 @@ unfolding number_of number_bytes begins got
 number-front v t h =
     let long : length (hex v) ≡ 16 = digits-length 16 16 v in
     let same : bytes (hex v ++ t) 0 16 ≡ hex v = ap (bytes (hex v ++ t) 0) (sym long) ∙ bytes-front (hex v) t in
-    let read : hex_at (32 ∷ (hex v ++ t)) 1 ≡ Value v = ap (value 16 0) (front (32 ∷ (hex v ++ t)) 1 16 ∙ same) ∙ back 16 (omega arith) (omega arith) 16 v h in
+    let read : hex_at (32 ∷ (hex v ++ t)) 1 ≡ Some v = ap (value 16 0) (front (32 ∷ (hex v ++ t)) 1 16 ∙ same) ∙ back 16 (omega arith) (omega arith) 16 v h in
     rw (read, drop_at (hex v) t 16 long)
 
 pub number-split : (s : List ℕ) (v : ℕ) (t : List ℕ) → number_of s ≡ Got v t → (s ≡ number_bytes v ++ t) × (v < 18446744073709551616)
 unfolding number_of number_bytes got
 number-split s v t e = go (begins (32 ∷ []) s) refl (hex_at s 1) refl e
   where
-    go : (b : Bool) → begins (32 ∷ []) s ≡ b → (r : Read) → hex_at s 1 ≡ r → cond b (got r (drop 17 s)) Wrong ≡ Got v t → (s ≡ 32 ∷ (hex v ++ t)) × (v < 18446744073709551616)
-    go true h (Value w) i f =
+    go : (b : Bool) → begins (32 ∷ []) s ≡ b → (r : Option ℕ) → hex_at s 1 ≡ r → cond b (got r (drop 17 s)) Wrong ≡ Got v t → (s ≡ 32 ∷ (hex v ++ t)) × (v < 18446744073709551616)
+    go true h (Some w) i f =
         let split : s ≡ 32 ∷ drop 1 s = word_split (32 ∷ []) s h in
         let there : drop 1 s ≡ hex w ++ drop 17 s = digits-there 16 (omega arith) (omega arith) s 1 16 w (omega (arith, ap length split)) i in
         let same : w ≡ v = cc in
         let rest : drop 17 s ≡ t = cc in
         (split ∙ ap (λ (l : List ℕ). 32 ∷ l) (there ∙ ap (λ (n : ℕ). hex n ++ drop 17 s) same ∙ ap (λ (l : List ℕ). hex v ++ l) rest), rw same at (value-small 16 (omega arith) (omega arith) s 1 16 w i))
-    go true h Nothing i f = let z : ◌≡◌ {A = ℕ} 0 1 = cc in absurd (omega arith)
+    go true h None i f = let z : ◌≡◌ {A = ℕ} 0 1 = cc in absurd (omega arith)
     go false h r i f = let z : ◌≡◌ {A = ℕ} 0 1 = cc in absurd (omega arith)
 
 -- ---- a number in decimal
@@ -105,7 +104,7 @@ pub decimal-most : (k w : ℕ) → w < 10 ^ suc k → length (decimal w) ≤ suc
 unfolding decimal
 decimal-most k w h = omega (arith, digits-length 10 (places 10 20 w) w, places-most 10 k 20 w (omega arith) h)
 
-pub decimal-front : (w : ℕ) (u : List ℕ) → w < 10 ^ 19 → decimal_at (decimal w ++ u) 0 (length (decimal w)) ≡ Value w
+pub decimal-front : (w : ℕ) (u : List ℕ) → w < 10 ^ 19 → decimal_at (decimal w ++ u) 0 (length (decimal w)) ≡ Some w
 unfolding decimal_at
 decimal-front w u h =
     rw (le-ltb 19 (length (decimal w)) (decimal-most 18 w h), bytes-front (decimal w) u) (decimal-back w (omega arith))
@@ -123,12 +122,12 @@ numeral-head (b ∷ s) m e h f = go (ltb 1 (run (b ∷ s))) refl e
     go true i g = let z : 0 ≡ suc m = rw zero-first at g in omega arith
     go false i g = omega (arith, ltb-false 1 (run (b ∷ s)) i)
 
-pub numeral-split : (s : List ℕ) (n w : ℕ) → numeral s ≡ n → (n ≡ 0 → ⊥) → decimal_at s 0 n ≡ Value w → s ≡ decimal w ++ drop n s
+pub numeral-split : (s : List ℕ) (n w : ℕ) → numeral s ≡ n → (n ≡ 0 → ⊥) → decimal_at s 0 n ≡ Some w → s ≡ decimal w ++ drop n s
 unfolding decimal_at bytes
 numeral-split s zero w e z f = absurd (z refl)
 numeral-split s (suc m) w e z f = go (ltb 19 (suc m)) refl f
   where
-    go : (t : Bool) → ltb 19 (suc m) ≡ t → cond t Nothing (value 10 0 (bytes s 0 (suc m))) ≡ Value w → s ≡ decimal w ++ drop (suc m) s
+    go : (t : Bool) → ltb 19 (suc m) ≡ t → cond t None (value 10 0 (bytes s 0 (suc m))) ≡ Some w → s ≡ decimal w ++ drop (suc m) s
     go true h g = let c : ◌≡◌ {A = ℕ} 0 1 = cc in absurd (omega arith)
     go false h g =
         let long : length (bytes s (0 + 1) m) ≡ m = bytes-length 10 (omega arith) (omega arith) s (0 + 1) m in
@@ -150,14 +149,14 @@ pub ring-split : (s : List ℕ) (v : ℕ) (t : List ℕ) → ring_of s ≡ Got v
 unfolding ring_of ring_from ring_by
 ring-split s v t e = go (eqb (numeral s) 0) refl (decimal_at s 0 (numeral s)) refl e
   where
-    within : (w : ℕ) → decimal_at s 0 (numeral s) ≡ Value w → (numeral s ≡ 0 → ⊥) → (b : Bool) → ltb w 4294967296 ≡ b → cond b (Got w (drop (numeral s) s)) Wrong ≡ Got v t → (s ≡ decimal v ++ t) × (v < 4294967296)
+    within : (w : ℕ) → decimal_at s 0 (numeral s) ≡ Some w → (numeral s ≡ 0 → ⊥) → (b : Bool) → ltb w 4294967296 ≡ b → cond b (Got w (drop (numeral s) s)) Wrong ≡ Got v t → (s ≡ decimal v ++ t) × (v < 4294967296)
     within w r z true i f =
         let same : w ≡ v = cc in
         let rest : drop (numeral s) s ≡ t = cc in
         (numeral-split s (numeral s) w refl z r ∙ ap (λ (n : ℕ). decimal n ++ drop (numeral s) s) same ∙ ap (λ (l : List ℕ). decimal v ++ l) rest, omega (arith, ltb-true w 4294967296 i))
     within w r z false i f = let c : ◌≡◌ {A = ℕ} 0 1 = cc in absurd (omega arith)
 
-    go : (b : Bool) → eqb (numeral s) 0 ≡ b → (r : Read) → decimal_at s 0 (numeral s) ≡ r → cond b Wrong (ring_by r (drop (numeral s) s)) ≡ Got v t → (s ≡ decimal v ++ t) × (v < 4294967296)
+    go : (b : Bool) → eqb (numeral s) 0 ≡ b → (r : Option ℕ) → decimal_at s 0 (numeral s) ≡ r → cond b Wrong (ring_by r (drop (numeral s) s)) ≡ Got v t → (s ≡ decimal v ++ t) × (v < 4294967296)
     go true h r i f = let c : ◌≡◌ {A = ℕ} 0 1 = cc in absurd (omega arith)
-    go false h (Value w) i f = within w i (eqb-false (numeral s) 0 h) (ltb w 4294967296) refl f
-    go false h Nothing i f = let c : ◌≡◌ {A = ℕ} 0 1 = cc in absurd (omega arith)
+    go false h (Some w) i f = within w i (eqb-false (numeral s) 0 h) (ltb w 4294967296) refl f
+    go false h None i f = let c : ◌≡◌ {A = ℕ} 0 1 = cc in absurd (omega arith)

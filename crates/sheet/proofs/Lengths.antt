@@ -1,5 +1,6 @@
 -- No sheet is longer than 20,268 bytes: the operation's line, two counts of at most three digits, and at most 256 edges, each a ring of at most ten
 -- digits, four numbers of 17 bytes and the line feed.
+use Rattle.refusals.specs.declared.Reason.{Reason}
 use mathlib.Core.Path.{◌≡◌, refl, ap}
 use mathlib.Core.List.{List, [], ◌∷◌}
 use Prim.Native.Nat.{ℕ, suc, ◌+◌, ◌*◌, ◌^◌, ◌≤◌, ◌<◌}
@@ -66,9 +67,9 @@ pub sheet-short : (b : List ℕ) (s : Sheet) → read_sheet b ≡ Accepted s →
 sheet-short b s e = let d = describes b s e in omega (arith, ap length d.0, written-short s d.1)
 
 -- .. and what is longer is refused
-pub long-refused : (b : List ℕ) → longest_sheet < length b → (number : ℕ) × (line : ℕ) × (read_sheet b ≡ Refused number line)
+pub long-refused : (b : List ℕ) → longest_sheet < length b → (reason : Reason) × (line : ℕ) × (read_sheet b ≡ Refused reason line)
 long-refused b l = go (read_sheet b) refl
   where
-    go : (r : Reading) → read_sheet b ≡ r → (number : ℕ) × (line : ℕ) × (read_sheet b ≡ Refused number line)
+    go : (r : Reading) → read_sheet b ≡ r → (reason : Reason) × (line : ℕ) × (read_sheet b ≡ Refused reason line)
     go (Accepted s) e = absurd (omega (arith, sheet-short b s e))
-    go (Refused number line) e = (number, line, e)
+    go (Refused reason line) e = (reason, line, e)

@@ -1,4 +1,5 @@
 -- The answers of the code that reads within one line, each by what was found before it.
+use Rattle.std.proofs.Common.{None, Option, Some}
 use mathlib.Core.Path.{◌≡◌, sym, ap, ◌∙◌}
 use mathlib.Core.Bool.{true, false}
 use mathlib.Core.List.{List, [], ◌∷◌}
@@ -9,13 +10,9 @@ use lib.ListN.{length, drop, drop_of_length-le, length-drop}
 use lib.Seq.{drop-drop}
 use Rattle.numbers.specs.declared.Point.{Point}
 use Rattle.class.specs.declared.Operation.TheVariants.{Intersection, Difference, Union, Xor}
-use Rattle.text.specs.declared.digits.Read.{Read}
-use Rattle.text.specs.declared.digits.Read.TheVariants.{Value, Nothing}
 use Rattle.text.specs.Quoted.{quoted}
 use Rattle.text.specs.Words.{begins}
 use Rattle.text.specs.Digits.{hex_at, decimal_at}
-use Rattle.sheet.specs.declared.numerals.Ring as ring
-use Rattle.sheet.specs.declared.edges.ReadCorner as corner
 use Rattle.sheet.specs.Sheet.{operation_line, operation_word}
 use Rattle.sheet.specs.Reading.{Got, Wrong, and_then, got, ended, numeral, ring_by, ring_from, ring_of, number_of, corner_of, edge_of, Count, Many, Malformed, over, count_with, count_by, count_from, count_of, line_of, operation_of}
 use Rattle.sheet.specs.Shown.{shown_ring, shown_corner}
@@ -54,72 +51,72 @@ module _ (b : List ℕ) (at n : ℕ) (h : n ≡ numeral (drop at b)) where
   unfolding ring_of ring_from
   ring-none e = rw (← h, eq-eqb n 0 e)
 
-  module _ (z : n ≡ 0 → ⊥) (r : Read) (g : r ≡ decimal_at b at n) where
+  module _ (z : n ≡ 0 → ⊥) (r : Option ℕ) (g : r ≡ decimal_at b at n) where
     begun : ring_by r (drop n (drop at b)) ≡ ring_of (drop at b)
     unfolding ring_of ring_from
     begun = rw (← h, ne_eqb n 0 z, g, decimal-front b at n)
 
-    pub ring_long : r ≡ Nothing → Wrong ≡ ring_of (drop at b)
+    pub ring_long : r ≡ None → Wrong ≡ ring_of (drop at b)
     unfolding ring_by
     ring_long e = rw e at begun
 
-    pub ring-above : (v : ℕ) → r ≡ Value v → 4294967295 < v → Wrong ≡ ring_of (drop at b)
+    pub ring-above : (v : ℕ) → r ≡ Some v → 4294967295 < v → Wrong ≡ ring_of (drop at b)
     unfolding ring_by
     ring-above v e l = rw (e, le-ltb v 4294967296 (omega arith)) at begun
 
-    pub ring-read : (v p : ℕ) → r ≡ Value v → v ≤ 4294967295 → p ≡ min (at + n) (length b) → Got v (drop p b) ≡ ring_of (drop at b)
+    pub ring-read : (v p : ℕ) → r ≡ Some v → v ≤ 4294967295 → p ≡ min (at + n) (length b) → Got v (drop p b) ≡ ring_of (drop at b)
     unfolding ring_by
     ring-read v p e l q = rw (q, further b at n) (rw (e, lt-ltb v 4294967296 (omega arith)) at begun)
 
 -- ---- a number after a space, and a corner
 
 module _ (b : List ℕ) (at : ℕ) where
-  pub number-none : begins (32 ∷ []) (drop at b) ≡ false → got Nothing (drop 17 (drop at b)) ≡ number_of (drop at b)
+  pub number-none : begins (32 ∷ []) (drop at b) ≡ false → got None (drop 17 (drop at b)) ≡ number_of (drop at b)
   unfolding number_of got
   number-none h = rw h
 
-  pub number_read : (p : ℕ) (r : Read) → begins (32 ∷ []) (drop at b) ≡ true → p ≡ min (at + 1) (length b) → r ≡ hex_at b p → got r (drop 17 (drop at b)) ≡ number_of (drop at b)
+  pub number_read : (p : ℕ) (r : Option ℕ) → begins (32 ∷ []) (drop at b) ≡ true → p ≡ min (at + 1) (length b) → r ≡ hex_at b p → got r (drop 17 (drop at b)) ≡ number_of (drop at b)
   unfolding number_of
   number_read p r h e f = rw (h, f, e, hex-front b at)
 
-  module _ (r : Read) (h : got r (drop 17 (drop at b)) ≡ number_of (drop at b)) where
-    pub corner-first : r ≡ Nothing → Wrong ≡ corner_of (drop at b)
+  module _ (r : Option ℕ) (h : got r (drop 17 (drop at b)) ≡ number_of (drop at b)) where
+    pub corner-first : r ≡ None → Wrong ≡ corner_of (drop at b)
     unfolding corner_of got and_then
     corner-first e = rw (← h, e)
 
-    module _ (x : ℕ) (e : r ≡ Value x) (p : ℕ) (o : p ≡ min (at + 17) (length b)) (q : Read) (k : got q (drop 17 (drop p b)) ≡ number_of (drop p b)) where
+    module _ (x : ℕ) (e : r ≡ Some x) (p : ℕ) (o : p ≡ min (at + 17) (length b)) (q : Option ℕ) (k : got q (drop 17 (drop p b)) ≡ number_of (drop p b)) where
       second : got q (drop 17 (drop 17 (drop at b))) ≡ number_of (drop 17 (drop at b))
       second = rw (o, further b at 17) at k
 
-      pub corner-second : q ≡ Nothing → Wrong ≡ corner_of (drop at b)
+      pub corner-second : q ≡ None → Wrong ≡ corner_of (drop at b)
       unfolding corner_of got and_then
       corner-second f = rw (← h, e, ← second, f)
 
-      pub corner-read : (y : ℕ) → q ≡ Value y → Got (record { x = x; y = y }) (drop 34 (drop at b)) ≡ corner_of (drop at b)
+      pub corner-read : (y : ℕ) → q ≡ Some y → Got (record { x = x; y = y }) (drop 34 (drop at b)) ≡ corner_of (drop at b)
       unfolding corner_of got and_then
       corner-read y f = rw (← h, e, ← second, f, drop-drop 17 17 (drop at b))
 
 -- ---- an edge's line
 
-module _ (b : List ℕ) (at : ℕ) (r : ring.Ring) (hr : shown_ring b r ≡ ring_of (drop at b)) where
-  pub edge-ring : r ≡ ring.TheVariants.Wrong → Wrong ≡ edge_of (drop at b)
+module _ (b : List ℕ) (at : ℕ) (r : Option (ℕ × ℕ)) (hr : shown_ring b r ≡ ring_of (drop at b)) where
+  pub edge-ring : r ≡ None → Wrong ≡ edge_of (drop at b)
   unfolding edge_of and_then
   edge-ring e = rw (← hr, e)
 
-  module _ (v p : ℕ) (er : r ≡ ring.TheVariants.Number v p) (f : corner.ReadCorner) (hf : shown_corner (drop p b) f ≡ corner_of (drop p b)) where
-    pub edge-from : f ≡ corner.TheVariants.Wrong → Wrong ≡ edge_of (drop at b)
+  module _ (v p : ℕ) (er : r ≡ Some (v, p)) (f : Option Point) (hf : shown_corner (drop p b) f ≡ corner_of (drop p b)) where
+    pub edge-from : f ≡ None → Wrong ≡ edge_of (drop at b)
     unfolding edge_of and_then
     edge-from e = rw (← hr, er, ← hf, e)
 
-    module _ (from : Point) (ef : f ≡ corner.TheVariants.Bits from) (q : ℕ) (hq : q ≡ min (p + 34) (length b)) (t : corner.ReadCorner) (ht : shown_corner (drop q b) t ≡ corner_of (drop q b)) where
+    module _ (from : Point) (ef : f ≡ Some from) (q : ℕ) (hq : q ≡ min (p + 34) (length b)) (t : Option Point) (ht : shown_corner (drop q b) t ≡ corner_of (drop q b)) where
       to-there : shown_corner (drop q b) t ≡ corner_of (drop 34 (drop p b))
       to-there = ht ∙ ap corner_of (ap (λ (n : ℕ). drop n b) hq ∙ further b p 34)
 
-      pub edge_to : t ≡ corner.TheVariants.Wrong → Wrong ≡ edge_of (drop at b)
+      pub edge_to : t ≡ None → Wrong ≡ edge_of (drop at b)
       unfolding edge_of and_then
       edge_to e = rw (← hr, er, ← hf, ef, ← to-there, e)
 
-      module _ (to : Point) (et : t ≡ corner.TheVariants.Bits to) (n : ℕ) (hn : n ≡ min (q + 34) (length b)) where
+      module _ (to : Point) (et : t ≡ Some to) (n : ℕ) (hn : n ≡ min (q + 34) (length b)) where
         there : drop 34 (drop q b) ≡ drop n b
         there = sym (ap (λ (k : ℕ). drop k b) hn ∙ further b q 34)
 
@@ -132,15 +129,6 @@ module _ (b : List ℕ) (at : ℕ) (r : ring.Ring) (hr : shown_ring b r ≡ ring
         edge-read e m hm = rw (← hr, er, ← hf, ef, ← to-there, et, there, e, hm, further b n 1)
 
 -- ---- a count's line
-
--- past the end nothing follows
-pub over-end : (b : List ℕ) (at : ℕ) → length b ≤ at → true ≡ over (drop at b)
-unfolding over
-over-end b at h = rw (drop_of_length-le b h)
-
-pub over-fed : (b : List ℕ) (at : ℕ) → at < length b → begins (10 ∷ []) (drop at b) ≡ over (drop at b)
-unfolding over
-over-fed b at h = rw (ne_eqb (length (drop at b)) 0 (λ e. omega (arith, length-drop at b)))
 
 module _ (b : List ℕ) (at n most : ℕ) where
   pub count_none : n ≡ 0 → Malformed ≡ count_from most n (drop at b)
@@ -156,16 +144,16 @@ module _ (b : List ℕ) (at n most : ℕ) where
     unfolding count_from
     count-wrong e = rw (ne_eqb n 0 z, digits-over, e)
 
-    module _ (l : over (drop q b) ≡ true) (r : Read) (hr : r ≡ decimal_at b at n) where
+    module _ (l : over (drop q b) ≡ true) (r : Option ℕ) (hr : r ≡ decimal_at b at n) where
       by_number_lem : count_by most r (drop q b) ≡ count_from most n (drop at b)
       unfolding count_from
       by_number_lem = rw (hr, decimal-front b at n, ne_eqb n 0 z, digits-over, l)
 
-      pub count_long : r ≡ Nothing → Many ≡ count_from most n (drop at b)
+      pub count_long : r ≡ None → Many ≡ count_from most n (drop at b)
       unfolding count_by
       count_long e = rw e at by_number_lem
 
-      module _ (v : ℕ) (e : r ≡ Value v) where
+      module _ (v : ℕ) (e : r ≡ Some v) where
         pub count-many : most < v → Many ≡ count_from most n (drop at b)
         unfolding count_by
         count-many m = rw (e, lt-ltb most v m) at by_number_lem

@@ -1,5 +1,9 @@
 -- Edges are stored one after the other: what is left of them, stored further on, gives the whole store.
+use Rattle.std.proofs.Common.{None, Some, Ok, Err, Option, Result}
+use Rattle.sheet.specs.declared.layers.Miscount.{Miscount}
+use Rattle.sheet.specs.declared.layers.Miscount.TheVariants as Miscount
 use mathlib.Core.Path.{◌≡◌, refl, sym, ap, ◌∙◌}
+use Rattle.refusals.specs.declared.Reason.TheVariants as Reason
 use mathlib.Core.List.{List, [], ◌∷◌, ◌++◌, map}
 use Prim.Native.Nat.{ℕ, suc, ◌+◌, ◌-◌, ◌≤◌, ◌<◌}
 use native.Mathlib.Nat.{add-zero, sub-zero}
@@ -10,12 +14,9 @@ use lib.Seq.{sets, drop-cons}
 use Rattle.class.specs.declared.Operation.{Operation}
 use Rattle.refusals.specs.declared.Refusal.{Refusal}
 use Rattle.sheet.specs.declared.edges.Edge.{Edge}
-use Rattle.sheet.specs.declared.layers.Count as count
 use Rattle.sheet.specs.declared.layers.Section.{Section}
-use Rattle.sheet.specs.declared.layers.Layer as layer
-use Rattle.sheet.specs.declared.operations.Found as found
-use Rattle.sheet.specs.declared.Told.{Told}
-use Rattle.sheet.specs.declared.Told.TheVariants.{Read, Refused as ToldRefused}
+use Rattle.sheet.specs.declared.Counts.{Counts}
+use Rattle.refusals.specs.declared.Refusal.{Refusal}
 use Rattle.sheet.specs.Sheet.{Sheet, subject_word, clip_word}
 use Rattle.sheet.specs.Reading.{Layer, Whole, Broken, edges_of, operation_of, count_of, layer_of, Reading, Accepted, after_clip, after_subject, after_operation, read_sheet}
 use Rattle.sheet.specs.Shown.{shown_count, begun, shown_layer, shown_operation, told}
@@ -53,61 +54,65 @@ put_both f g b c d l m n h e k =
 
 -- ---- what was read of a layer is stored
 
-module _ {A : Type 0} (f : Edge → A) (a : List A) (place : ℕ) (b word : List ℕ) (at most : ℕ) (r : count.Count) (h : shown_count b r ≡ count_of word most (drop at b)) where
-  pub stored-read : (n first : ℕ) → r ≡ count.TheVariants.Edges n first → (c : List A) → c ≡ sets a place (map f (edges_of n (drop first b)).list) → c ≡ sets a place (map f (begun (count_of word most (drop at b))))
+module _ {A : Type 0} (f : Edge → A) (a : List A) (place : ℕ) (b word : List ℕ) (at most : ℕ) (r : Result (ℕ × ℕ) Miscount) (h : shown_count b r ≡ count_of word most (drop at b)) where
+  pub stored-read : (n first : ℕ) → r ≡ Ok (n, first) → (c : List A) → c ≡ sets a place (map f (edges_of n (drop first b)).list) → c ≡ sets a place (map f (begun (count_of word most (drop at b))))
   stored-read n first e c g = rw (← h, e) g
 
-  pub stored-many : r ≡ count.TheVariants.Many → a ≡ sets a place (map f (begun (count_of word most (drop at b))))
+  stored-many : r ≡ Err Miscount.Many → a ≡ sets a place (map f (begun (count_of word most (drop at b))))
   stored-many e = rw (← h, e)
 
-  pub stored-malformed : r ≡ count.TheVariants.Malformed → a ≡ sets a place (map f (begun (count_of word most (drop at b))))
+  stored-malformed : r ≡ Err Miscount.Malformed → a ≡ sets a place (map f (begun (count_of word most (drop at b))))
   stored-malformed e = rw (← h, e)
+
+  pub stored-miscounted : (m : Miscount) → r ≡ Err m → a ≡ sets a place (map f (begun (count_of word most (drop at b))))
+  stored-miscounted Miscount.Many = stored-many
+  stored-miscounted Miscount.Malformed = stored-malformed
 
 -- ---- the answers, each by what decides it
 
 module _ (b : List ℕ) (o : Operation) (subject clip : List Edge) (n m p : ℕ) (hn : n ≡ length subject) (hm : m ≡ length clip) where
-  pub clip-more : p < length b → ToldRefused (record { number = 10; place = 4 + (n + m) }) ≡ told (after_clip o subject (Whole clip (drop p b)))
+  pub clip-more : p < length b → Err (record { reason = Reason.Malformed; place = 4 + (n + m) }) ≡ told (after_clip o subject (Whole clip (drop p b)))
   unfolding after_clip
   clip-more h = rw (drop-cons b p 0 h, hn, hm)
 
-  pub clip-read : length b ≤ p → Read o n m ≡ told (after_clip o subject (Whole clip (drop p b)))
+  pub clip-read : length b ≤ p → Ok (record { operation = o; subject = n; clip = m }) ≡ told (after_clip o subject (Whole clip (drop p b)))
   unfolding after_clip
   clip-read h = rw (drop_of_length-le b {i = p} h, hn, hm)
 
-pub no_line : (b : List ℕ) (s : found.Found) → shown_operation b s ≡ operation_of b → s ≡ found.TheVariants.Wrong → ToldRefused (record { number = 10; place = 1 }) ≡ told (read_sheet b)
+pub no_line : (b : List ℕ) (s : Option (Operation × ℕ)) → shown_operation b s ≡ operation_of b → s ≡ None → Err (record { reason = Reason.Malformed; place = 1 }) ≡ told (read_sheet b)
 unfolding read_sheet after_operation
 no_line b s h e = rw (← h, e)
 
-module _ (b : List ℕ) (o : Operation) (r : layer.Layer) (k : List Edge) where
+module _ (b : List ℕ) (o : Operation) (r : Result Section Refusal) (k : List Edge) where
   module _ (l : List Edge) (n p : ℕ) (hn : n ≡ length l) (hr : shown_layer k b r ≡ layer_of clip_word (256 - n) (3 + n) (drop p b)) where
     by-clip : after_clip o l (shown_layer k b r) ≡ after_subject o (Whole l (drop p b))
     unfolding after_subject
     by-clip = rw (hr, hn)
 
-    pub subject-on : (x : Section) → r ≡ layer.TheVariants.Whole x → (y : Told) → y ≡ told (after_clip o l (Whole k (drop x.after b))) → y ≡ told (after_subject o (Whole l (drop p b)))
+    pub subject-on : (x : Section) → r ≡ Ok x → (y : Result Counts Refusal) → y ≡ told (after_clip o l (Whole k (drop x.after b))) → y ≡ told (after_subject o (Whole l (drop p b)))
     subject-on x e y g = rw (← by-clip, e) g
 
-    pub subject-broken : (q : Refusal) → r ≡ layer.TheVariants.Broken q → ToldRefused q ≡ told (after_subject o (Whole l (drop p b)))
+    pub subject-broken : (q : Refusal) → r ≡ Err q → Err q ≡ told (after_subject o (Whole l (drop p b)))
     unfolding after_clip
     subject-broken q e = rw (← by-clip, e)
 
-  module _ (s : found.Found) (hs : shown_operation b s ≡ operation_of b) (p : ℕ) (es : s ≡ found.TheVariants.Line o p) (hr : shown_layer k b r ≡ layer_of subject_word 256 2 (drop p b)) where
+  module _ (s : Option (Operation × ℕ)) (hs : shown_operation b s ≡ operation_of b) (p : ℕ) (es : s ≡ Some (o, p)) (hr : shown_layer k b r ≡ layer_of subject_word 256 2 (drop p b)) where
     by-subject : after_subject o (shown_layer k b r) ≡ read_sheet b
     unfolding read_sheet after_operation
     by-subject = rw (← hs, es, ← hr)
 
-    pub sheet-on : (x : Section) → r ≡ layer.TheVariants.Whole x → after_subject o (Whole k (drop x.after b)) ≡ read_sheet b
+    pub sheet-on : (x : Section) → r ≡ Ok x → after_subject o (Whole k (drop x.after b)) ≡ read_sheet b
     sheet-on x e = rw e at by-subject
 
-    pub sheet-broken : (q : Refusal) → r ≡ layer.TheVariants.Broken q → ToldRefused q ≡ told (read_sheet b)
+    pub sheet-broken : (q : Refusal) → r ≡ Err q → Err q ≡ told (read_sheet b)
     unfolding after_subject
     sheet-broken q e = rw (← by-subject, e)
 
 -- ---- an accepted sheet is stored
 
-pub refused_none : (x : Reading) (q : Refusal) → ToldRefused q ≡ told x → (s : Sheet) → x ≡ Accepted s → ⊥
+pub refused_none : (x : Reading) (q : Refusal) → Err q ≡ told x → (s : Sheet) → x ≡ Accepted s → ⊥
 refused_none x q h s e =
-    let f : ToldRefused q ≡ told (Accepted s) = rw e at h in
+    let f : Err q ≡ told (Accepted s) = rw e at h in
     let z : ◌≡◌ {A = ℕ} 0 1 = cc in
     omega arith
 

@@ -1,4 +1,9 @@
 -- Edges are read one after the other; those read and those that are missing make up the count.
+use Rattle.refusals.specs.declared.Refusal.{Refusal}
+use Rattle.refusals.specs.declared.Reason.TheVariants as Reason
+use Rattle.sheet.specs.declared.layers.Miscount.{Miscount}
+use Rattle.sheet.specs.declared.layers.Miscount.TheVariants as Miscount
+use Rattle.std.proofs.Common.{None, Option, Some, Ok, Err, Result}
 use mathlib.Core.Path.{◌≡◌, refl, sym, ap, ◌∙◌}
 use mathlib.Core.Bool.{Bool, true, false, cond}
 use mathlib.Core.List.{List, [], ◌∷◌}
@@ -8,17 +13,12 @@ use native.Mathlib.Omega.{arith}
 use borrow.Author.Tests.{ltb-false}
 use lib.Dec.{eqb, ltb}
 use lib.ListN.{length, drop}
-use Rattle.text.specs.declared.digits.Read.{Read}
-use Rattle.text.specs.declared.digits.Read.TheVariants.{Value, Nothing}
 use Rattle.text.specs.Words.{begins}
 use Rattle.text.specs.Digits.{decimal_at}
 use Rattle.sheet.specs.declared.edges.Edge.{Edge}
-use Rattle.sheet.specs.declared.edges.ReadEdge as edge
-use Rattle.sheet.specs.declared.layers.Count as count
 use Rattle.sheet.specs.declared.layers.Section.{Section}
-use Rattle.sheet.specs.declared.layers.Layer as layer
 use Rattle.sheet.specs.Reading.{Parsed, Got, Wrong, edge_of, on_edge, edges_of, Whole, Broken, whole_by, Counted, Count, Many, Malformed, numeral, over, count_with, count_by, count_from, count_of, layer_by, layer_of}
-use Rattle.sheet.specs.Shown.{shown_edge, shown_count, begun, shown_layer, CountedLayer}
+use Rattle.sheet.specs.Shown.{reason_of, shown_edge, shown_count, begun, shown_layer, CountedLayer}
 
 -- ---- one edge
 
@@ -62,11 +62,11 @@ all (suc n) s = go (edge_of s) refl (λ t. all n t)
 -- ---- one after the other: i of count are read, and the next begins at p
 
 module _ (s : List ℕ) (count i p : ℕ) where
-  module _ (h : i < count) (r : edge.ReadEdge) (hr : shown_edge s r ≡ edge_of (drop p s)) where
+  module _ (h : i < count) (r : Option (Edge × ℕ)) (hr : shown_edge s r ≡ edge_of (drop p s)) where
     one_less : count - i ≡ suc (count - (i + 1))
     one_less = omega arith
 
-    module _ (e : Edge) (q : ℕ) (er : r ≡ edge.TheVariants.Line e q) where
+    module _ (e : Edge) (q : ℕ) (er : r ≡ Some (e, q)) where
       there : Got e (drop q s) ≡ edge_of (drop p s)
       there = rw er at hr
 
@@ -79,7 +79,7 @@ module _ (s : List ℕ) (count i p : ℕ) where
       pub rest-again : (t : List ℕ) → (edges_of (count - i) (drop p s)).rest ≡ t → (edges_of (count - (i + 1)) (drop q s)).rest ≡ t
       rest-again t inv = sym (rest-on (count - (i + 1)) (drop p s) e (drop q s) there) ∙ (rw one_less at inv)
 
-    module _ (er : r ≡ edge.TheVariants.Wrong) where
+    module _ (er : r ≡ None) where
       nothing : Wrong ≡ edge_of (drop p s)
       nothing = rw er at hr
 
@@ -117,11 +117,11 @@ module _ (s : List ℕ) (count at : ℕ) where
 -- ---- a layer: all of its edges, or a line that is none
 
 module _ (b : List ℕ) (n line first k : ℕ) (h : k ≡ length (edges_of n (drop first b)).list) where
-  pub whole-broken : k < n → Broken 10 (line + 1 + k) ≡ whole_by (line + 1) (edges_of n (drop first b)).list (edges_of n (drop first b)).missing (edges_of n (drop first b)).rest
+  pub whole-broken : k < n → Broken Reason.Malformed (line + 1 + k) ≡ whole_by (line + 1) (edges_of n (drop first b)).list (edges_of n (drop first b)).missing (edges_of n (drop first b)).rest
   unfolding whole_by
   whole-broken l = rw h (go (edges_of n (drop first b)).missing (omega (arith, all n (drop first b))))
     where
-      go : (m : ℕ) → 0 < m → Broken 10 (line + 1 + length (edges_of n (drop first b)).list) ≡ whole_by (line + 1) (edges_of n (drop first b)).list m (edges_of n (drop first b)).rest
+      go : (m : ℕ) → 0 < m → Broken Reason.Malformed (line + 1 + length (edges_of n (drop first b)).list) ≡ whole_by (line + 1) (edges_of n (drop first b)).list m (edges_of n (drop first b)).rest
       go zero z = absurd (omega arith)
       go (suc m) z = refl
 
@@ -132,8 +132,8 @@ module _ (b : List ℕ) (n line first k : ℕ) (h : k ≡ length (edges_of n (dr
       rw (z, e)
 
 -- its count decides
-module _ (b word : List ℕ) (at most line : ℕ) (r : count.Count) (h : shown_count b r ≡ count_of word most (drop at b)) where
-  module _ (n first : ℕ) (e : r ≡ count.TheVariants.Edges n first) (x : layer.Layer) where
+module _ (b word : List ℕ) (at most line : ℕ) (r : Result (ℕ × ℕ) Miscount) (h : shown_count b r ≡ count_of word most (drop at b)) where
+  module _ (n first : ℕ) (e : r ≡ Ok (n, first)) (x : Result Section Refusal) where
     pub layer-read : shown_layer (edges_of n (drop first b)).list b x ≡ whole_by (line + 1) (edges_of n (drop first b)).list (edges_of n (drop first b)).missing (edges_of n (drop first b)).rest → shown_layer (begun (count_of word most (drop at b))) b x ≡ layer_of word most line (drop at b)
     unfolding layer_of layer_by
     layer-read g = rw (← h, e) g
@@ -141,26 +141,30 @@ module _ (b word : List ℕ) (at most line : ℕ) (r : count.Count) (h : shown_c
     pub layer-counted : CountedLayer (edges_of n (drop first b)).list x → CountedLayer (begun (count_of word most (drop at b))) x
     layer-counted g = rw (← h, e) g
 
-  pub layer-many : r ≡ count.TheVariants.Many → Broken 1 line ≡ layer_of word most line (drop at b)
+  layer-many : r ≡ Err Miscount.Many → Broken Reason.Size line ≡ layer_of word most line (drop at b)
   unfolding layer_of layer_by
   layer-many e = rw (← h, e)
 
-  pub layer-malformed : r ≡ count.TheVariants.Malformed → Broken 10 line ≡ layer_of word most line (drop at b)
+  layer-malformed : r ≡ Err Miscount.Malformed → Broken Reason.Malformed line ≡ layer_of word most line (drop at b)
   unfolding layer_of layer_by
   layer-malformed e = rw (← h, e)
+
+  pub layer-miscounted : (m : Miscount) → r ≡ Err m → Broken (reason_of m) line ≡ layer_of word most line (drop at b)
+  layer-miscounted Miscount.Many = layer-many
+  layer-miscounted Miscount.Malformed = layer-malformed
 
 -- ---- a layer holds no more than the limit
 
 module _ (most n : ℕ) (t : List ℕ) where
-  by-few : (r : Read) (s : List ℕ) → count_by most r s ≡ Count n t → n ≤ most
+  by-few : (r : Option ℕ) (s : List ℕ) → count_by most r s ≡ Count n t → n ≤ most
   unfolding count_by count_with
-  by-few (Value v) s e = go (ltb most v) refl (begins (10 ∷ []) s) e
+  by-few (Some v) s e = go (ltb most v) refl (begins (10 ∷ []) s) e
     where
       go : (x : Bool) → ltb most v ≡ x → (y : Bool) → cond x Many (cond y (Count v (drop 1 s)) Malformed) ≡ Count n t → n ≤ most
       go true h y f = let z : ◌≡◌ {A = ℕ} 0 1 = cc in absurd (omega arith)
       go false h true f = let q : v ≡ n = cc in omega (arith, ltb-false most v h)
       go false h false f = let z : ◌≡◌ {A = ℕ} 0 1 = cc in absurd (omega arith)
-  by-few Nothing s e = let z : ◌≡◌ {A = ℕ} 0 1 = cc in absurd (omega arith)
+  by-few None s e = let z : ◌≡◌ {A = ℕ} 0 1 = cc in absurd (omega arith)
 
   from-few : (k : ℕ) (s : List ℕ) → count_from most k s ≡ Count n t → n ≤ most
   unfolding count_from
@@ -206,8 +210,8 @@ pub layer-few : (word : List ℕ) (most line : ℕ) (s : List ℕ) (l : List Edg
 layer-few word most line s l t e = omega (arith, ap length (whole-begun word most line s l t e), begun-few word most s)
 
 -- .. as the code counts them
-pub counted-whole : (l : List Edge) (r : layer.Layer) (x : Section) → CountedLayer l r → r ≡ layer.TheVariants.Whole x → x.count ≡ length l
+pub counted-whole : (l : List Edge) (r : Result Section Refusal) (x : Section) → CountedLayer l r → r ≡ Ok x → x.count ≡ length l
 counted-whole l r x h e = rw e at h
 
-pub section-few : (b word : List ℕ) (most p : ℕ) (r : layer.Layer) (x : Section) → CountedLayer (begun (count_of word most (drop p b))) r → r ≡ layer.TheVariants.Whole x → x.count ≤ most
+pub section-few : (b word : List ℕ) (most p : ℕ) (r : Result Section Refusal) (x : Section) → CountedLayer (begun (count_of word most (drop p b))) r → r ≡ Ok x → x.count ≤ most
 section-few b word most p r x h e = omega (arith, counted-whole (begun (count_of word most (drop p b))) r x h e, begun-few word most (drop p b))

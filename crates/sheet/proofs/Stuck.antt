@@ -1,4 +1,6 @@
 -- A line is read alike whatever comes after it; so a layer that is broken at a line is begun by the lines before it, and by none with it.
+use Rattle.refusals.specs.declared.Reason.{Reason}
+use Rattle.refusals.specs.declared.Reason.TheVariants as Reason
 use mathlib.Core.Path.{◌≡◌, refl, sym, ap, ◌∙◌, subst}
 use mathlib.Core.List.{List, [], ◌∷◌, ◌++◌, append_assoc}
 use Prim.Native.Nat.{ℕ, zero, suc, ◌+◌, ◌≤◌}
@@ -156,10 +158,10 @@ module _ (word : List ℕ) (w : Within word) (most line : ℕ) (small : most ≤
           let limit : n ≤ most = count-few most n u word s h in
           let sum : length got + suc m ≡ n = omega (arith, all n u) in
           let read : edges_of n (edge_lines got ++ y) ≡ record { list = got; missing = suc m; rest = y } = ap (λ (k : ℕ). edges_of k (edge_lines got ++ y)) (sym sum) ∙ stuck-front got m y fit x in
-          let g : Broken 10 (line + 1 + length got) ≡ Whole l t = rw (append_assoc (count_line word n) (edge_lines got) y, count-front word most n (edge_lines got ++ y) limit (omega arith), read) at f in
+          let g : Broken Reason.Malformed (line + 1 + length got) ≡ Whole l t = rw (append_assoc (count_line word n) (edge_lines got) y, count-front word most n (edge_lines got ++ y) limit (omega arith), read) at f in
           let z : ◌≡◌ {A = ℕ} 0 1 = cc in omega arith
 
-  pub stuck : (n at : ℕ) → layer_of word most line s ≡ Broken n at → Stuck word most line s at
+  pub stuck : (n : Reason) (at : ℕ) → layer_of word most line s ≡ Broken n at → Stuck word most line s at
   unfolding layer_of layer_by whole_by
   stuck n at e = count (count_of word most s) refl e
     where

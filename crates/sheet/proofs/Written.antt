@@ -1,4 +1,5 @@
 -- What is written in front is read, and what is read in front was written: lines and layers.
+use Rattle.std.proofs.Common.{None, Option, Some}
 use mathlib.Core.Path.{◌≡◌, refl, sym, ap, ◌∙◌, subst₂}
 use mathlib.Core.Bool.{Bool, true, false, cond, or-true}
 use mathlib.Core.List.{List, [], ◌∷◌, ◌++◌, append_assoc}
@@ -11,8 +12,6 @@ use lib.Seq.{drop-append_seam}
 use Rattle.numbers.specs.declared.Point.{Point}
 use Rattle.class.specs.declared.Operation.{Operation}
 use Rattle.class.specs.declared.Operation.TheVariants.{Intersection, Difference, Union, Xor}
-use Rattle.text.specs.declared.digits.Read.{Read}
-use Rattle.text.specs.declared.digits.Read.TheVariants.{Value, Nothing}
 use Rattle.text.specs.Quoted.{quoted}
 use Rattle.text.specs.Words.{begins}
 use Rattle.text.specs.Digits.{decimal, digit_of, decimal_at}
@@ -158,18 +157,18 @@ count-front word most n t h k =
     rw (append_assoc word (decimal n ++ (10 ∷ [])) t, word-front word ((decimal n ++ (10 ∷ [])) ++ t), drop-append_seam word ((decimal n ++ (10 ∷ [])) ++ t), append_assoc (decimal n) (10 ∷ []) t, numeral-front n (10 ∷ t) (ends t) (omega arith), ne_eqb (length (decimal n)) 0 (λ e. omega (arith, decimal-some n)), drop-append_seam (decimal n) (10 ∷ t), over-front t, decimal-front n (10 ∷ t) (omega arith), le-ltb most n h, with-front n t)
 
 module _ (most n : ℕ) (t : List ℕ) where
-  by-split : (r : Read) (s : List ℕ) → count_by most r s ≡ Count n t → (r ≡ Value n) × (s ≡ 10 ∷ t)
+  by-split : (r : Option ℕ) (s : List ℕ) → count_by most r s ≡ Count n t → (r ≡ Some n) × (s ≡ 10 ∷ t)
   unfolding count_by count_with
-  by-split (Value v) s e = go (ltb most v) (begins (10 ∷ []) s) refl e
+  by-split (Some v) s e = go (ltb most v) (begins (10 ∷ []) s) refl e
     where
-      go : (x y : Bool) → begins (10 ∷ []) s ≡ y → cond x Many (cond y (Count v (drop 1 s)) Malformed) ≡ Count n t → (Value v ≡ Value n) × (s ≡ 10 ∷ t)
+      go : (x y : Bool) → begins (10 ∷ []) s ≡ y → cond x Many (cond y (Count v (drop 1 s)) Malformed) ≡ Count n t → (Some v ≡ Some n) × (s ≡ 10 ∷ t)
       go true y i f = let z : ◌≡◌ {A = ℕ} 0 1 = cc in absurd (omega arith)
       go false true i f =
           let same : v ≡ n = cc in
           let rest : drop 1 s ≡ t = cc in
-          (ap Value same, word_split (10 ∷ []) s i ∙ ap (λ (l : List ℕ). 10 ∷ l) rest)
+          (ap Some same, word_split (10 ∷ []) s i ∙ ap (λ (l : List ℕ). 10 ∷ l) rest)
       go false false i f = let z : ◌≡◌ {A = ℕ} 0 1 = cc in absurd (omega arith)
-  by-split Nothing s e = let z : ◌≡◌ {A = ℕ} 0 1 = cc in absurd (omega arith)
+  by-split None s e = let z : ◌≡◌ {A = ℕ} 0 1 = cc in absurd (omega arith)
 
   from-split : (s : List ℕ) → count_from most (numeral s) s ≡ Count n t → s ≡ decimal n ++ (10 ∷ t)
   unfolding count_from

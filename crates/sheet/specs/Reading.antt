@@ -1,12 +1,12 @@
 -- Reading bytes as a sheet, line by line from line 1. A line that is not what stands there is refusal 10 at that line, and so is one that is
 -- missing or ends without its line feed; a count above what is left of the limit is refusal 1 at its line, however many digits it has, and also
 -- where the bytes end in its digits.
-use Rattle.std.specs.Prelude.{Bool, cond, ◌&&◌, ◌||◌, List, [], ◌∷◌, ℕ, zero, suc, ◌+◌, ◌-◌, eqb, ltb, length, drop}
+use Rattle.refusals.specs.declared.Reason.{Reason}
+use Rattle.refusals.specs.declared.Reason.TheVariants as Reason
+use Rattle.std.specs.Prelude.{Bool, cond, ◌&&◌, ◌||◌, List, [], ◌∷◌, ℕ, zero, suc, ◌+◌, ◌-◌, eqb, ltb, length, drop, None, Option, Some}
 use Rattle.numbers.specs.declared.Point.{Point}
 use Rattle.class.specs.declared.Operation.{Operation}
 use Rattle.class.specs.declared.Operation.TheVariants.{Intersection, Difference, Union, Xor}
-use Rattle.text.specs.declared.digits.Read.{Read}
-use Rattle.text.specs.declared.digits.Read.TheVariants.{Value, Nothing}
 use Rattle.text.specs.Words.{begins}
 use Rattle.text.specs.Digits.{digit_of, hex_at, decimal_at}
 use Rattle.sheet.specs.declared.edges.Edge.{Edge}
@@ -21,9 +21,9 @@ unfoldable pub and_then : {A B : Type 0} → Parsed A → (A → List ℕ → Pa
 and_then (Got a s) next = next a s
 and_then Wrong next = Wrong
 
-unfoldable pub got : Read → List ℕ → Parsed ℕ
-got (Value v) s = Got v s
-got Nothing s = Wrong
+unfoldable pub got : Option ℕ → List ℕ → Parsed ℕ
+got (Some v) s = Got v s
+got None s = Wrong
 
 -- with a line feed after it
 unfoldable pub ended : {A : Type 0} → A → List ℕ → Parsed A
@@ -40,9 +40,9 @@ run (b ∷ s) = cond (ltb (digit_of b) 10) (suc (run s)) 0
 unfoldable pub numeral : List ℕ → ℕ
 numeral s = cond (ltb 1 (run s) && begins (48 ∷ []) s) 0 (run s)
 
-unfoldable pub ring_by : Read → List ℕ → Parsed ℕ
-ring_by (Value v) s = cond (ltb v 4294967296) (Got v s) Wrong
-ring_by Nothing s = Wrong
+unfoldable pub ring_by : Option ℕ → List ℕ → Parsed ℕ
+ring_by (Some v) s = cond (ltb v 4294967296) (Got v s) Wrong
+ring_by None s = Wrong
 
 unfoldable pub ring_from : ℕ → List ℕ → Parsed ℕ
 ring_from n s = cond (eqb n 0) Wrong (ring_by (decimal_at s 0 n) (drop n s))
@@ -95,9 +95,9 @@ unfoldable pub count_with : ℕ → List ℕ → Counted
 count_with v s = cond (begins (10 ∷ []) s) (Count v (drop 1 s)) Malformed
 
 -- a number of more than 19 digits is above every limit
-unfoldable pub count_by : ℕ → Read → List ℕ → Counted
-count_by most (Value v) s = cond (ltb most v) Many (count_with v s)
-count_by most Nothing s = Many
+unfoldable pub count_by : ℕ → Option ℕ → List ℕ → Counted
+count_by most (Some v) s = cond (ltb most v) Many (count_with v s)
+count_by most None s = Many
 
 unfoldable pub count_from : ℕ → ℕ → List ℕ → Counted
 count_from most n s = cond (eqb n 0) Malformed (cond (over (drop n s)) (count_by most (decimal_at s 0 n) (drop n s)) Malformed)
@@ -108,17 +108,17 @@ count_of word most s = cond (begins word s) (count_from most (numeral (drop (len
 -- a layer and the bytes after it, or a refusal's number and line
 pub data Layer : Type 0 where
   Whole : List Edge → List ℕ → Layer
-  Broken : ℕ → ℕ → Layer
+  Broken : Reason → ℕ → Layer
 
 -- its edges begin at the line given
 unfoldable pub whole_by : ℕ → List Edge → ℕ → List ℕ → Layer
 whole_by line l zero s = Whole l s
-whole_by line l (suc n) s = Broken 10 (line + length l)
+whole_by line l (suc n) s = Broken Reason.Malformed (line + length l)
 
 unfoldable pub layer_by : ℕ → Counted → Layer
 layer_by line (Count n s) = whole_by (line + 1) (edges_of n s).list (edges_of n s).missing (edges_of n s).rest
-layer_by line Many = Broken 1 line
-layer_by line Malformed = Broken 10 line
+layer_by line Many = Broken Reason.Size line
+layer_by line Malformed = Broken Reason.Malformed line
 
 unfoldable pub layer_of : List ℕ → ℕ → ℕ → List ℕ → Layer
 layer_of word most line s = layer_by line (count_of word most s)
@@ -127,7 +127,7 @@ layer_of word most line s = layer_by line (count_of word most s)
 
 pub data Reading : Type 0 where
   Accepted : Sheet → Reading
-  Refused : ℕ → ℕ → Reading
+  Refused : Reason → ℕ → Reading
 
 unfoldable pub line_of : Operation → List ℕ → Parsed Operation → Parsed Operation
 line_of o s other = cond (begins (operation_line o) s) (Got o (drop (length (operation_line o)) s)) other
@@ -137,16 +137,16 @@ operation_of s = line_of Intersection s (line_of Union s (line_of Difference s (
 
 unfoldable pub after_clip : Operation → List Edge → Layer → Reading
 after_clip o subject (Whole clip []) = Accepted (record { operation = o; subject = subject; clip = clip })
-after_clip o subject (Whole clip (b ∷ s)) = Refused 10 (4 + (length subject + length clip))
-after_clip o subject (Broken number line) = Refused number line
+after_clip o subject (Whole clip (b ∷ s)) = Refused Reason.Malformed (4 + (length subject + length clip))
+after_clip o subject (Broken reason line) = Refused reason line
 
 unfoldable pub after_subject : Operation → Layer → Reading
 after_subject o (Whole subject s) = after_clip o subject (layer_of clip_word (most_edges - length subject) (3 + length subject) s)
-after_subject o (Broken number line) = Refused number line
+after_subject o (Broken reason line) = Refused reason line
 
 unfoldable pub after_operation : Parsed Operation → Reading
 after_operation (Got o s) = after_subject o (layer_of subject_word most_edges 2 s)
-after_operation Wrong = Refused 10 1
+after_operation Wrong = Refused Reason.Malformed 1
 
 unfoldable pub read_sheet : List ℕ → Reading
 read_sheet s = after_operation (operation_of s)

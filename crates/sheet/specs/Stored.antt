@@ -1,9 +1,9 @@
 -- What reading leaves: its answer, and the edges, stored by `read_rows` as rows of words, each layer by itself, and by `read_sheet` in the form that
 -- loading takes, subject first. A refused sheet leaves the arrays as lent, and an edge past the end of an array is not stored in it.
-use Rattle.std.specs.Prelude.{List, [], ◌∷◌, ◌++◌, map, ℕ, ◌%◌, length, get_or}
+use Rattle.std.specs.Prelude.{List, [], ◌∷◌, ◌++◌, map, ℕ, ◌%◌, length, get_or, Ok, Err, Result}
 use Rattle.std.proofs.lemmas.List.Edits.{sets}
-use Rattle.sheet.specs.declared.Told.{Told}
-use Rattle.sheet.specs.declared.Told.TheVariants.{Read, Refused as ToldRefused}
+use Rattle.sheet.specs.declared.Counts.{Counts}
+use Rattle.refusals.specs.declared.Refusal.{Refusal}
 use Rattle.sheet.specs.declared.edges.Edge.{Edge}
 use Rattle.sheet.specs.Sheet.{Sheet}
 use Rattle.sheet.specs.Reading.{Reading, Accepted, Refused}
@@ -22,17 +22,17 @@ rows_in s = map row_of s.subject ++ map row_of s.clip
 
 -- the rows of each layer, from place 0 of an array of its own
 pub record AfterRows : Type 0 where
-  pub answer : Told
+  pub answer : Result Counts Refusal
   pub subject : List (List ℕ)
   pub clip : List (List ℕ)
 
-abbrev pub left_rows : Told → List (List ℕ) → List (List ℕ) → AfterRows
+abbrev pub left_rows : Result Counts Refusal → List (List ℕ) → List (List ℕ) → AfterRows
 left_rows answer subject clip = record { answer = answer; subject = subject; clip = clip }
 
 unfoldable pub leave_rows : Reading → List (List ℕ) → List (List ℕ) → AfterRows
 leave_rows (Accepted s) subject clip =
-    left_rows (Read s.operation (length s.subject) (length s.clip)) (sets subject 0 (map row_of s.subject)) (sets clip 0 (map row_of s.clip))
-leave_rows (Refused number line) subject clip = left_rows (ToldRefused (record { number = number; place = line })) subject clip
+    left_rows (Ok (record { operation = s.operation; subject = length s.subject; clip = length s.clip })) (sets subject 0 (map row_of s.subject)) (sets clip 0 (map row_of s.clip))
+leave_rows (Refused reason line) subject clip = left_rows (Err (record { reason = reason; place = line })) subject clip
 
 -- ---- in the form that loading takes
 
@@ -51,15 +51,15 @@ unfoldable pub labels_of_row : ℕ → List ℕ → List ℕ
 labels_of_row subject r = get_or r 4 0 % 4294967296 ∷ subject ∷ []
 
 pub record After : Type 0 where
-  pub answer : Told
+  pub answer : Result Counts Refusal
   pub ends : List (List ℕ)
   pub labels : List (List ℕ)
 
-abbrev pub left : Told → List (List ℕ) → List (List ℕ) → After
+abbrev pub left : Result Counts Refusal → List (List ℕ) → List (List ℕ) → After
 left answer ends labels = record { answer = answer; ends = ends; labels = labels }
 
 unfoldable pub leave : Reading → List (List ℕ) → List (List ℕ) → After
 leave (Accepted s) ends labels =
-    left (Read s.operation (length s.subject) (length s.clip)) (sets ends 0 (map ends_of s.subject ++ map ends_of s.clip))
+    left (Ok (record { operation = s.operation; subject = length s.subject; clip = length s.clip })) (sets ends 0 (map ends_of s.subject ++ map ends_of s.clip))
     (sets labels 0 (map (labels_of 1) s.subject ++ map (labels_of 0) s.clip))
-leave (Refused number line) ends labels = left (ToldRefused (record { number = number; place = line })) ends labels
+leave (Refused reason line) ends labels = left (Err (record { reason = reason; place = line })) ends labels

@@ -6,27 +6,20 @@ ghost use Rattle.sheet.specs.Shown.{shown_operation};
 use class::Operation;
 use text::words::{after, has_word};
 
-// With the place after its line.
-#[derive(Clone, Copy)]
-pub enum Found {
-    Line(Operation, usize),
-    Wrong,
-}
-
-pub fn read_operation(s: &[u8]) -> Found
+pub fn read_operation(s: &[u8]) -> Option<(Operation, usize)>
     ensures { shown_operation s.now result ≡ operation_of s.now }
 {
     if has_word(s, 0, b"operation intersection\n") {
-        return Found::Line(Operation::Intersection, after(0, 23, s.len()));
+        return Some((Operation::Intersection, after(0, 23, s.len())));
     }
     if has_word(s, 0, b"operation union\n") {
-        return Found::Line(Operation::Union, after(0, 16, s.len()));
+        return Some((Operation::Union, after(0, 16, s.len())));
     }
     if has_word(s, 0, b"operation difference\n") {
-        return Found::Line(Operation::Difference, after(0, 21, s.len()));
+        return Some((Operation::Difference, after(0, 21, s.len())));
     }
     if has_word(s, 0, b"operation xor\n") {
-        return Found::Line(Operation::Xor, after(0, 14, s.len()));
+        return Some((Operation::Xor, after(0, 14, s.len())));
     }
-    Found::Wrong
+    None
 }

@@ -1,19 +1,19 @@
 -- What a C caller is told by the stages: which output gets which value of the answer (`specs/Answer.antt` of each stage). An output that the answer
 -- does not speak of is as it was lent.
-use Rattle.std.specs.Prelude.{◌≡◌, Bool, cond, ◌||◌, List, [], ◌∷◌, ℕ, eqb, get_or}
+use Rattle.refusals.specs.declared.Reason.{Reason}
+use Rattle.refusals.specs.declared.Reason.TheVariants as Reason
+use Rattle.refusals.specs.Refusals.{Verdict}
+use Rattle.std.specs.Prelude.{◌≡◌, Bool, true, false, cond, List, [], ◌∷◌, ℕ, eqb, get_or, Err, Ok, Result}
+use Rattle.refusals.specs.declared.Refusal.{Refusal}
 use Rattle.events.specs.Pool.{Pool, flag_number}
 use Rattle.class.specs.declared.Operation.{Operation}
 use Rattle.class.specs.declared.Operation.TheVariants.{Intersection, Difference, Union, Xor}
-use Rattle.loading.specs.declared.Loaded.{Loaded}
-use Rattle.loading.specs.declared.Loaded.TheVariants.{Done, Refused}
 use Rattle.loading.specs.Answer as LoadAnswer
 use Rattle.loading.specs.OnPool as Load
 use Rattle.sweep.specs.declared.Swept.{Swept}
-use Rattle.sweep.specs.declared.Outcome as SweepEnd
 use Rattle.sweep.specs.Answer as SweepAnswer
 use Rattle.sweep.specs.OnPool as Sweep
 use Rattle.connection.specs.declared.Connected.{Connected}
-use Rattle.connection.specs.declared.Outcome as ConnectEnd
 use Rattle.connection.specs.Answer as ConnectAnswer
 use Rattle.connection.specs.Connection as Connection
 use Rattle.connection.specs.Connection.{Lent}
@@ -21,23 +21,33 @@ use Rattle.connection.specs.Connection.{Lent}
 -- ---- loading
 
 -- of an answer that is done the value is the places in use, of a refusal its place
-unfoldable pub load_used : Loaded → ℕ → ℕ
-load_used (Done n) lent = get_or (LoadAnswer.values_of (Done n)) 0 lent
-load_used (Refused why) lent = lent
+unfoldable pub load_used : Result ℕ Refusal → ℕ → ℕ
+load_used (Ok n) lent = get_or (LoadAnswer.values_of (Ok n)) 0 lent
+load_used (Err why) lent = lent
 
-unfoldable pub load_place : Loaded → ℕ → ℕ
-load_place (Done n) lent = lent
-load_place (Refused why) lent = get_or (LoadAnswer.values_of (Refused why)) 0 lent
+unfoldable pub load_place : Result ℕ Refusal → ℕ → ℕ
+load_place (Ok n) lent = lent
+load_place (Err why) lent = get_or (LoadAnswer.values_of (Err why)) 0 lent
 
 -- ---- counts
 
 -- refused by the checks of the sweep or of connection, and so before anything is done
-unfoldable pub by_checks : (number : ℕ) → Bool
-by_checks number = eqb number 1 || (eqb number 2 || (eqb number 4 || (eqb number 8 || eqb number 5)))
+unfoldable pub by_checks : Reason → Bool
+by_checks Reason.Size = true
+by_checks Reason.Coordinate = true
+by_checks Reason.Ends = false
+by_checks Reason.Link = true
+by_checks Reason.Room = true
+by_checks Reason.Full = false
+by_checks Reason.Cut = false
+by_checks Reason.HalfEdge = true
+by_checks Reason.Loose = false
+by_checks Reason.Malformed = false
 
 -- told by a call that has done something
-unfoldable pub counts_by : (number : ℕ) → (told lent : List ℕ) → List ℕ
-counts_by number told lent = cond (by_checks number) lent told
+unfoldable pub counts_by : Verdict → (told lent : List ℕ) → List ℕ
+counts_by (Ok _) told lent = told
+counts_by (Err why) told lent = cond (by_checks why.reason) lent told
 
 -- ---- the sweep
 
@@ -45,21 +55,21 @@ counts_by number told lent = cond (by_checks number) lent told
 unfoldable pub operation_of : ℕ → Operation
 operation_of n = cond (eqb n 0) Intersection (cond (eqb n 1) Difference (cond (eqb n 2) Union Xor))
 
-unfoldable pub sweep_place : SweepEnd.Outcome → ℕ → ℕ
+unfoldable pub sweep_place : Verdict → ℕ → ℕ
 sweep_place end lent = get_or (SweepAnswer.values_of end) 0 lent
 
 -- events taken, divisions made, places in use, and whether a tie was met
 unfoldable pub sweep_counts : Swept → List ℕ → List ℕ
-sweep_counts s = counts_by (SweepAnswer.number_of s.outcome) (s.taken ∷ s.divisions ∷ s.used ∷ flag_number s.tied ∷ [])
+sweep_counts s = counts_by s.outcome (s.taken ∷ s.divisions ∷ s.used ∷ flag_number s.tied ∷ [])
 
 -- ---- connection
 
-unfoldable pub connect_place : ConnectEnd.Outcome → ℕ → ℕ
+unfoldable pub connect_place : Verdict → ℕ → ℕ
 connect_place end lent = get_or (ConnectAnswer.values_of end) 0 lent
 
 -- contours, corners, holes, contours that are open
 unfoldable pub connect_counts : Connected → List ℕ → List ℕ
-connect_counts c = counts_by (ConnectAnswer.number_of c.outcome) (c.contours ∷ c.corners ∷ c.holes ∷ c.«open» ∷ [])
+connect_counts c = counts_by c.outcome (c.contours ∷ c.corners ∷ c.holes ∷ c.«open» ∷ [])
 
 -- ---- a call that its checks refuse leaves everything as lent
 

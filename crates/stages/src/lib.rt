@@ -16,8 +16,8 @@ ghost use Rattle.stages.specs.Told.{operation_of, by_checks, counts_by};
 use class::Operation;
 use connection::connect_edges;
 use events::pool::number_of_flag;
-use loading::{Loaded, load};
-use refusals::{COORDINATE, HALF_EDGE, LINK, ROOM, SIZE};
+use loading::load;
+use refusals::{Reason, Refusal};
 use sweep::subdivide;
 
 pub fn bezorika_load(
@@ -34,11 +34,11 @@ pub fn bezorika_load(
     ensures place_after { place.new ≡ Told.load_place (Loading.load ends.now labels.now (pool points.old marks.old)).answer place.old }
 {
     match load(ends, labels, points, marks) {
-        Loaded::Refused(why) => {
+        Err(why) => {
             *place = why.place;
-            why.number
+            u64::from(why.reason)
         }
-        Loaded::Done(n) => {
+        Ok(n) => {
             *used = n;
             0
         }
@@ -56,38 +56,38 @@ fn operation_of(n: u32) -> Operation
     }
 }
 
-fn is_by_checks(number: u64) -> bool
-    ensures { result ≡ by_checks number }
+#[tactic(auto, unfolding(crate::specs::Told::by_checks))]
+fn is_by_checks(reason: Reason) -> bool
+    ensures { result ≡ by_checks reason }
 {
-    match number {
-        SIZE => true,
-        COORDINATE => true,
-        LINK => true,
-        HALF_EDGE => true,
-        ROOM => true,
-        _ => false,
-    }
+    matches!(
+        reason,
+        Reason::Size | Reason::Coordinate | Reason::Link | Reason::HalfEdge | Reason::Room
+    )
 }
 
 // A call that its checks refuse has counted nothing.
-fn tell_counts(number: u64, told: [u32; 4], counts: &mut [u32; 4])
-    ensures { counts.new ≡ counts_by number told counts.old }
+#[tactic(auto, unfolding(crate::specs::Told::counts_by))]
+fn tell_counts(outcome: Result<(), Refusal>, told: [u32; 4], counts: &mut [u32; 4])
+    ensures { counts.new ≡ counts_by outcome told counts.old }
 {
-    if is_by_checks(number) {
-        return;
+    if let Err(refusal) = outcome {
+        if is_by_checks(refusal.reason) {
+            return;
+        }
     }
     *counts = told;
 }
 
-fn tell_end(outcome: sweep::Outcome, place: &mut u64) -> u64
+fn tell_end(outcome: Result<(), Refusal>, place: &mut u64) -> u64
     ensures value { result ≡ SweepAnswer.number_of outcome }
     ensures place_after { place.new ≡ Told.sweep_place outcome place.old }
 {
     match outcome {
-        sweep::Outcome::Done => 0,
-        sweep::Outcome::Refused(why) => {
+        Ok(()) => 0,
+        Err(why) => {
             *place = why.place;
-            why.number
+            u64::from(why.reason)
         }
     }
 }
@@ -110,21 +110,20 @@ pub fn bezorika_subdivide(
 {
     let s = subdivide(points, marks, loaded, operation_of(operation), mode, taken);
     let outcome = s.outcome;
-    let number = tell_end(outcome, place);
     let told = [s.taken, s.divisions, s.used, number_of_flag(s.tied)];
-    tell_counts(number, told, counts);
-    number
+    tell_counts(outcome, told, counts);
+    tell_end(outcome, place)
 }
 
-fn tell_connection(outcome: connection::Outcome, place: &mut u64) -> u64
+fn tell_connection(outcome: Result<(), Refusal>, place: &mut u64) -> u64
     ensures value { result ≡ ConnectAnswer.number_of outcome }
     ensures place_after { place.new ≡ Told.connect_place outcome place.old }
 {
     match outcome {
-        connection::Outcome::Done => 0,
-        connection::Outcome::Refused(why) => {
+        Ok(()) => 0,
+        Err(why) => {
             *place = why.place;
-            why.number
+            u64::from(why.reason)
         }
     }
 }
@@ -147,8 +146,7 @@ pub fn bezorika_connect(
 {
     let c = connect_edges(points, marks, list, corners, contours, holes);
     let outcome = c.outcome;
-    let number = tell_connection(outcome, place);
     let told = [c.contours, c.corners, c.holes, c.open];
-    tell_counts(number, told, counts);
-    number
+    tell_counts(outcome, told, counts);
+    tell_connection(outcome, place)
 }

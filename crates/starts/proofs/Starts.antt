@@ -1,20 +1,20 @@
 -- What the code traces is what the definition traces: the arrays hold the contours so far, so that what is read back of one is what it is.
+use Rattle.std.proofs.Common.{Option, None, Some}
 use mathlib.Core.Path.{◌≡◌, refl, sym, ap, ◌∙◌}
+use Rattle.refusals.specs.declared.Reason.TheVariants as Reason
 use mathlib.Core.Bool.{Bool, true, false, cond}
-use mathlib.Core.Option.{Option, none, some}
 use mathlib.Core.List.{List, [], ◌∷◌, ◌++◌, append_assoc, append-nil}
 use Prim.Native.Nat.{ℕ, zero, suc, ◌+◌, ◌≤◌, ◌<◌}
 use native.Mathlib.Numerals.{add-one, sub-one}
 use native.Mathlib.Nat.{add-zero, zero-add}
 use native.Mathlib.Decide.{dec_lt}
 use native.Mathlib.Omega.{arith}
-use borrow.Author.Tests.{le-ltb, lt-ltb, eq-eqb, ne_eqb, le-leb, lt-leb}
+use borrow.Author.Tests.{le-ltb, lt-ltb, ne_eqb}
 use lib.ListN.{length, get_or, set, length-append, replicate, get_or-append, get_or-eq_default}
 use lib.Seq.{sets, sets-eq}
 use lib.Dec.{eqb, ltb}
 use Rattle.events.specs.Coordinates.{same}
 use Rattle.events.specs.Binary64.{at_binary64}
-use Rattle.checks.specs.Checks.{max_events}
 use Rattle.contours.specs.Result.{keep}
 use Rattle.contours.specs.Table.{Below}
 use Rattle.contours.specs.Round.{is_open}
@@ -29,13 +29,13 @@ use Rattle.walks.specs.Walks.{trail_from, corners_of, unclosed_trail, marks_of, 
 use Rattle.walks.proofs.Walks.{trail-from}
 use Rattle.starts.specs.declared.Turn.{Turn}
 use Rattle.starts.specs.declared.context.Place.{Place as Found}
-use Rattle.starts.specs.Starts.{Sheet, sheet, turn_of, code_of, all_corners, nest_of, nests_from, unclosed_count, sheet_of, answer_of, fits, traced_on}
+use Rattle.starts.specs.Starts.{Sheet, sheet, turn_of, code_of, all_corners, nest_of, nests_from, unclosed_count, sheet_of, answer_of}
 use Rattle.starts.specs.Steps.{place, mark_below, blank, nest_at, above, above_mark, context_of, ended, made_at, place_at, start_at, after, starts}
 
 -- ---- one contour more at the end
 
 abbrev void : Contour
-void = contour [] none 0
+void = contour [] None 0
 
 module _ (t : Rows) where
   corners-snoc : (cs : List Contour) (k : Contour) → all_corners t (cs ++ (k ∷ [])) ≡ all_corners t cs ++ corners_of t k.trail
@@ -108,8 +108,8 @@ module _ (t : Rows) where
     above-is true c = rw ((nest-get 0 cs c).0, (nest-get 0 cs c).1) (go (get_or cs c void).parent)
       where
         go : (p : Option ℕ) → cond (eqb (code_of p) 0) (place false (suc c) ((get_or cs c void).depth + 1)) (place false (code_of p) (get_or cs c void).depth) ≡ found_of (hole p c (get_or cs c void).depth)
-        go none = rw (add-one, add-one)
-        go (some q) = rw (ne_eqb (q + 1) 0 (λ z. omega arith))
+        go None = rw (add-one, add-one)
+        go (Some q) = rw (ne_eqb (q + 1) 0 (λ z. omega arith))
 
     context-is : (ms : List ℕ) (w : ℕ) (b : Bool) → context_of ms (sets ns 0 (nests_from t 0 cs)) (length cs) w b ≡ found_of (context ms cs (below_of w b))
     unfolding context_of above_mark mark_below context owned loose below_of code_of
@@ -197,40 +197,18 @@ module _ (t : Rows) (near : Bool) (out : List (List ℕ)) (ns : List (List ℕ))
         more : Option ℕ → ℕ → Answer
         more p d = turns (same at_binary64) (size t) (table_row t) k (i + 1) (marks_of t (length cs) ms T) (cs ++ (contour T p d ∷ []))
 
-        placing : (w : Place) → Rest → next (place_at t near S i (found_of t ns cs (omega arith) w)) ≡ answer_of t out ns (make w (halted 9 i ms cs) more)
+        placing : (w : Place) → Rest → next (place_at t near S i (found_of t ns cs (omega arith) w)) ≡ answer_of t out ns (make w (halted Reason.Loose i ms cs) more)
         placing refuse r = refl
         placing (placed p d) r =
             ap next (made-is ms cs i p d ∙ ap (λ (l : List ℕ). sheet_of t out ns (marks_of t (length cs) ms l) (cs ++ (contour l p d ∷ [])) 0 0) (trail-from t near (tried-is t near (λ h. sym o ∙ h)) (length cs) i ms))
             ∙ r (marks_of t (length cs) ms T) (cs ++ (contour T p d ∷ [])) (omega (arith, length-append cs (contour T p d ∷ [])))
 
         go : (m : ℕ) → Rest → next (cond (eqb m 0) (place_at t near S i (found_of t ns cs (omega arith) (context ms cs B))) S)
-            ≡ answer_of t out ns (turn (is_open m) (λ _. make (context ms cs B) (halted 9 i ms cs) more) (λ _. turns (same at_binary64) (size t) (table_row t) k (i + 1) ms cs))
+            ≡ answer_of t out ns (turn (is_open m) (λ _. make (context ms cs B) (halted Reason.Loose i ms cs) more) (λ _. turns (same at_binary64) (size t) (table_row t) k (i + 1) ms cs))
         go zero r = placing (context ms cs B) r
         go (suc m) r = rw (ne_eqb (suc m) 0 (λ z. omega arith)) (r ms cs (omega arith))
 
     -- from no mark at all
-    trace-is : size t ≤ length ns → starts t near (size t) 0 (sheet (replicate (size t) 0) out ns (turn_of 0 0 0 0 0)) ≡ answer_of t out ns (trace (same at_binary64) (size t) (table_row t))
+    pub trace_is : (m : ℕ) → m ≡ size t → size t ≤ length ns → starts t near (size t) 0 (sheet (replicate m 0) out ns (turn_of 0 0 0 0 0)) ≡ answer_of t out ns (trace (same at_binary64) (size t) (table_row t))
     unfolding trace sheet_of all_corners nests_from unclosed_count keep
-    trace-is h = starts-are (size t) 0 (replicate (size t) 0) [] (omega arith) (omega arith) h
-
--- ---- the whole
-
-module _ (t : Rows) (out : List (List ℕ)) (ns : List (List ℕ)) where
-  module _ (ms : List ℕ) where
-    pub traced-long : max_events < size t → (s : Turn) → s ≡ turn_of 0 0 0 0 0 → sheet ms out ns s ≡ traced_on t ms out ns
-    unfolding traced_on fits
-    traced-long h s e = rw (e, lt-leb (size t) max_events h)
-
-    module _ (l : size t ≤ max_events) where
-      pub traced-uneven : (length ms ≡ size t → ⊥) → (s : Turn) → s ≡ turn_of 0 0 0 0 0 → sheet ms out ns s ≡ traced_on t ms out ns
-      unfolding traced_on fits
-      traced-uneven h s e = rw (e, le-leb (size t) max_events l, ne_eqb (length ms) (size t) h)
-
-      module _ (m : length ms ≡ size t) where
-        pub traced-narrow : length ns < size t → (s : Turn) → s ≡ turn_of 0 0 0 0 0 → sheet ms out ns s ≡ traced_on t ms out ns
-        unfolding traced_on fits
-        traced-narrow h s e = rw (e, le-leb (size t) max_events l, eq-eqb (length ms) (size t) m, lt-leb (size t) (length ns) h)
-
-        pub traced-whole : size t ≤ length ns → (near : Bool) (ms' : List ℕ) (w : Sheet) → near ≡ in_order t.at 0 (size t) → ms' ≡ replicate (length ms) 0 → w ≡ starts t near (size t) 0 (sheet ms' out ns (turn_of 0 0 0 0 0)) → w ≡ traced_on t ms out ns
-        unfolding traced_on fits
-        traced-whole h near ms' w o e f = rw (le-leb (size t) max_events l, eq-eqb (length ms) (size t) m, le-leb (size t) (length ns) h) (f ∙ rw (e, m) (trace-is t near out ns o h))
+    trace_is m e h = rw e (starts-are (size t) 0 (replicate (size t) 0) [] (omega arith) (omega arith) h)

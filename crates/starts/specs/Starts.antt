@@ -1,7 +1,7 @@
 -- All contours of the table in lent arrays (`contours.specs.Contours`): the marks, the corners of one contour after those of another, and what is
 -- kept of each contour. Corners beyond the lent points are not stored; all other places stay as lent.
-use Rattle.std.specs.Prelude.{Bool, cond, ◌&&◌, List, [], ◌∷◌, ◌++◌, ℕ, ◌+◌, length, eqb, leb}
-use Rattle.std.proofs.Math.Option.{Option, none, some}
+use Rattle.refusals.specs.Refusals.{number}
+use Rattle.std.specs.Prelude.{Bool, cond, ◌&&◌, List, [], ◌∷◌, ◌++◌, ℕ, ◌+◌, length, eqb, leb, Option, None, Some}
 use Rattle.std.proofs.lemmas.List.Edits.{sets}
 use Rattle.events.specs.Coordinates.{same}
 use Rattle.events.specs.Binary64.{at_binary64}
@@ -27,8 +27,8 @@ turn_of c e u s p = record { count = c; end = e; unclosed = u; stop = s; place =
 
 -- a number + 1, or 0 for none
 unfoldable pub code_of : Option ℕ → ℕ
-code_of none = 0
-code_of (some p) = p + 1
+code_of None = 0
+code_of (Some p) = p + 1
 
 module _ (t : Rows) where
   -- the corners of contours, one after the other
@@ -54,7 +54,7 @@ module _ (t : Rows) where
 
   unfoldable pub answer_of : List (List ℕ) → List (List ℕ) → Answer → Sheet
   answer_of out ns (done ms cs) = sheet_of out ns ms cs 0 0
-  answer_of out ns (halted number i ms cs) = sheet_of out ns ms cs number i
+  answer_of out ns (halted reason i ms cs) = sheet_of out ns ms cs (number reason) i
 
   -- not more rows than records, as many marks as rows, and nests enough
   unfoldable pub fits : List ℕ → List (List ℕ) → Bool

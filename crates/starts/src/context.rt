@@ -16,8 +16,8 @@ fn placed(parent: u32, depth: u32) -> Place
 {
     Place {
         refused: false,
-        parent: parent,
-        depth: depth,
+        parent,
+        depth,
     }
 }
 
@@ -33,30 +33,26 @@ fn loose(out_in: bool) -> Place
 }
 
 // One outside the marks has no contour.
+#[tactic(auto, unfolding(crate::specs::Steps::mark_below))]
 fn mark_below(walked: &[u32], i: usize) -> u32
     ensures { result ≡ mark_below walked.now i }
 {
-    if i < walked.len() {
-        return walked[i];
-    }
-    0
+    walked.get(i).copied().unwrap_or(0)
 }
 
 // Contour j, where there are count.
+#[tactic(auto, unfolding(crate::specs::Steps::nest_at))]
 fn nest_at(nests: &[[u32; 4]], count: u32, j: u32) -> [u32; 4]
     ensures { result ≡ nest_at nests.now count j }
 {
     if count <= j {
-        return [0, 0, 0, 0];
+        return [0; 4];
     }
-    let at = j as usize;
-    if nests.len() <= at {
-        return [0, 0, 0, 0];
-    }
-    nests[at]
+    nests.get(j as usize).copied().unwrap_or([0; 4])
 }
 
 // below is the position of the edge below + 1, or 0 for none.
+#[tactic(auto, unfolding(crate::specs::Steps::context_of, crate::specs::Steps::above_mark, crate::specs::Steps::above))]
 pub fn context_of(walked: &[u32], nests: &[[u32; 4]], count: u32, below: u32, out_in: bool) -> Place
     requires { Shallow nests.now count 4096 }
     ensures { result ≡ context_of walked.now nests.now count below out_in }

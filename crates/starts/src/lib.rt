@@ -3,7 +3,7 @@
 // What a contour's holes and depth need of it is kept in `nests`: its first corner, where its corners end, its parent + 1 or 0, its depth.
 #![tactic(auto)]
 
-ghost use Rattle.std.specs.Prelude.{◌≡◌, ◌≤◌, length, replicate};
+ghost use Rattle.std.specs.Prelude.{◌≡◌, ◌≤◌, length};
 ghost use Rattle.rows.specs.Rows.{lent};
 ghost use Rattle.starts.specs.Starts.{sheet, turn_of, traced_on};
 ghost use Rattle.starts.specs.Steps.{starts};
@@ -40,19 +40,8 @@ fn nothing() -> Turn
     }
 }
 
-// No position is walked.
-fn clear(walked: &mut [u32])
-    ensures { walked.new ≡ replicate (length walked.old) 0 }
-{
-    let n = walked.len();
-    let mut i = 0;
-    while i < n {
-        walked[i] = 0;
-        i += 1;
-    }
-}
-
 // Every position in turn, until a refusal.
+#[tactic(auto, using(crate::proofs::Steps::starts_more, crate::proofs::Steps::starts_none))]
 fn all_starts(
     rows: &[[u32; 4]],
     at: &[[u64; 2]],
@@ -64,20 +53,18 @@ fn all_starts(
     requires { length rows.now ≤ 4096 }
     ensures { sheet walked.new corners.new nests.new result ≡ starts (lent rows.now at.now) near (length rows.now) 0 (sheet walked.old corners.old nests.old (turn_of 0 0 0 0 0)) }
 {
-    let n = rows.len();
     let mut s = nothing();
-    let mut i = 0;
-    while i < n {
+    for i in 0..rows.len() {
         s = start_at(rows, at, walked, corners, nests, near, s, i);
         if s.stop != 0 {
             return s;
         }
-        i += 1;
     }
     s
 }
 
 // All contours. Where the table is too long, or the marks are not as many as its rows, or the nests fewer, nothing is done.
+#[tactic(auto, using(crate::proofs::Starts::trace_is), unfolding(crate::specs::Starts::traced_on, crate::specs::Starts::fits))]
 pub fn trace_starts(
     rows: &[[u32; 4]],
     at: &[[u64; 2]],
@@ -98,6 +85,6 @@ pub fn trace_starts(
         return nothing();
     }
     let near = in_order(at, n);
-    clear(walked);
+    walked.fill(0);
     all_starts(rows, at, walked, corners, nests, near)
 }

@@ -1,5 +1,5 @@
 // One position: passed by, refused, or the start of a contour.
-ghost use Rattle.std.specs.Prelude.{◌≡◌, cond, ◌+◌, ◌*◌, ◌≤◌, ◌<◌, length, set};
+ghost use Rattle.std.specs.Prelude.{◌≡◌, ◌+◌, ◌*◌, ◌≤◌, ◌<◌, length};
 ghost use Rattle.rows.specs.Rows.{lent};
 ghost use Rattle.starts.specs.Starts.{sheet};
 ghost use Rattle.starts.specs.Steps.{made_at, start_at, Within};
@@ -8,30 +8,13 @@ use crate::Turn;
 use crate::context::context_of;
 use round::mark_at;
 use rows::end_at;
-use walks::walk_from;
+use walks::{set_at, walk_from};
 
 // 01's refusal of a contour above an OutIn edge that has no contour.
 const LOOSE: u32 = 9;
 
-fn put_nest(nests: &mut [[u32; 4]], i: usize, nest: [u32; 4])
-    ensures { nests.new ≡ set nests.old i nest }
-{
-    if i < nests.len() {
-        nests[i] = nest;
-    }
-}
-
-fn counted(n: u32, one_more: bool) -> u32
-    requires { n ≤ 4096 }
-    ensures { result ≡ n + cond one_more 1 0 }
-{
-    if one_more {
-        return n + 1;
-    }
-    n
-}
-
 // The contour from i.
+#[tactic(auto, unfolding(crate::specs::Steps::made_at, crate::specs::Steps::ended))]
 fn make(
     rows: &[[u32; 4]],
     at: &[[u64; 2]],
@@ -51,16 +34,17 @@ fn make(
     let first = s.end;
     let walk = walk_from(rows, at, walked, corners, near, c as u16, i, first);
     let end = walk.end as u32;
-    put_nest(nests, c as usize, [first, end, parent, depth]);
+    set_at(nests, c as usize, [first, end, parent, depth]);
     Turn {
         count: c + 1,
-        end: end,
-        unclosed: counted(s.unclosed, walk.unclosed),
+        end,
+        unclosed: s.unclosed + u32::from(walk.unclosed),
         stop: 0,
         place: 0,
     }
 }
 
+#[tactic(auto, unfolding(crate::specs::Steps::start_at, crate::specs::Steps::place_at))]
 pub fn start_at(
     rows: &[[u32; 4]],
     at: &[[u64; 2]],

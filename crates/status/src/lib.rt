@@ -5,37 +5,39 @@ ghost use Rattle.std.specs.Prelude.{◌≡◌, eqb, length, take};
 ghost use Rattle.lists.specs.Lists.{slot};
 ghost use Rattle.status.specs.Status.{member, below};
 
-use events::Link;
+// The members: an array shorter than n has no more than it holds.
+fn members_of(status: &[u32], n: usize) -> &[u32]
+    ensures { result.now ≡ take n status.now }
+{
+    &status[..n.min(status.len())]
+}
 
-// How many members there are: an array shorter than n has no more than it holds.
+// How many members there are.
 pub fn count(status: &[u32], n: usize) -> usize
     ensures { result ≡ length (take n status.now) }
 {
-    if status.len() < n {
-        return status.len();
-    }
-    n
+    members_of(status, n).len()
 }
 
 // The member at a place.
-pub fn member_at(status: &[u32], n: usize, k: usize) -> Link
+pub fn member_at(status: &[u32], n: usize, k: usize) -> Option<u32>
     ensures { result ≡ member (take n status.now) k }
 {
     if n <= k {
-        return Link::None;
+        return None;
     }
     if status.len() <= k {
-        return Link::None;
+        return None;
     }
-    Link::To(status[k])
+    Some(status[k])
 }
 
 // The member just below a place.
-pub fn below_at(status: &[u32], n: usize, k: usize) -> Link
+pub fn below_at(status: &[u32], n: usize, k: usize) -> Option<u32>
     ensures { result ≡ below (take n status.now) k }
 {
     if k == 0 {
-        return Link::None;
+        return None;
     }
     member_at(status, n, k - 1)
 }
@@ -44,13 +46,9 @@ pub fn below_at(status: &[u32], n: usize, k: usize) -> Link
 pub fn slot_of(status: &[u32], n: usize, o: u32) -> usize
     ensures { result ≡ slot (λ m. eqb m o) (take n status.now) }
 {
-    let end = count(status, n);
-    let mut i = 0;
-    while i < end {
-        if status[i] == o {
-            return i;
-        }
-        i += 1;
-    }
-    i
+    let members = members_of(status, n);
+    members
+        .iter()
+        .position(|m| *m == o)
+        .unwrap_or(members.len())
 }

@@ -1,4 +1,5 @@
 -- The queue in the code's arrays, at binary64: what it tells of a state, and that it stays a queue.
+use Rattle.std.proofs.Common.{Ok, Some}
 use mathlib.Core.Path.{◌≡◌, sym, ap, ◌∙◌, subst}
 use mathlib.Core.Bool.{Bool, true}
 use mathlib.Core.List.{List, []}
@@ -8,7 +9,6 @@ use native.Mathlib.Omega.{arith}
 use lib.ListN.{length, take, replicate}
 use lib.Seq.{length-take-le, take-take}
 use Rattle.numbers.specs.declared.Point.{Point}
-use Rattle.events.specs.declared.Link.TheVariants.{To}
 use Rattle.events.specs.Binary64.{at_binary64}
 use Rattle.events.specs.Coordinates.{Crossing}
 use Rattle.events.specs.Pool.{Pool, row_at, stored}
@@ -16,7 +16,6 @@ use Rattle.events.specs.Store.{look}
 use Rattle.events.proofs.Stored.{pool-stored}
 use Rattle.events.proofs.Looks.{pool-blanks}
 use Rattle.class.specs.declared.Operation.{Operation}
-use Rattle.checks.specs.declared.Check.TheVariants.{Passed}
 use Rattle.checks.specs.Checks.{max_events}
 use Rattle.checks.specs.Numbers.{numbers_from}
 use Rattle.checks.specs.Sound as Checked
@@ -41,7 +40,7 @@ use Rattle.sweep.proofs.Lines.{lined-next, lined-tie, lined-step, lined-start}
 
 -- ---- what the checks leave
 
-module _ (p : Pool) (n : ℕ) (taken : List ℕ) (h : accept p n taken ≡ Passed) where
+module _ (p : Pool) (n : ℕ) (taken : List ℕ) (h : accept p n taken ≡ Ok tt) where
   each-sound : (r : ℕ) → r < n → Checked.Sound at_binary64 (row_at p) n r
   unfolding accept
   each-sound r l =
@@ -76,22 +75,22 @@ module _ {p : Pool} {w : List Bool} {queue : List ℕ} {t : Turn} (q : Queues p 
   pub next-at : below line t.waiting ≡ next at_binary64 stored here
   next-at = ap (below line) (sym as_many) ∙ lined-next move-laws pool-stored pool-blanks lined-here
 
-  pub tie-at : (e : ℕ) → next at_binary64 stored here ≡ To e → ties_with (before_used p t.used) e (below line (t.waiting - 1)) ≡ is_tied at_binary64 stored here e
+  pub tie-at : (e : ℕ) → next at_binary64 stored here ≡ Some e → ties_with (before_used p t.used) e (below line (t.waiting - 1)) ≡ is_tied at_binary64 stored here e
   unfolding is_before before_used
   tie-at e n = ap (λ k. ties_with (before_used p t.used) e (below line (k - 1))) (sym as_many) ∙ lined-tie move-laws pool-stored pool-blanks lined-here e n
 
   -- where an event is to be taken, the queue is not empty
-  pub some-wait : (e : ℕ) → next at_binary64 stored here ≡ To e → 0 < t.waiting
+  pub some-wait : (e : ℕ) → next at_binary64 stored here ≡ Some e → 0 < t.waiting
   unfolding below
   some-wait e n = go t.waiting (next-at ∙ n)
     where
-      go : (k : ℕ) → below line k ≡ To e → 0 < k
+      go : (k : ℕ) → below line k ≡ Some e → 0 < k
       go zero h = absurd (let z : ◌≡◌ {A = ℕ} 0 1 = cc in omega arith)
       go (suc k) h = omega arith
 
   -- ---- after a step in which event e is taken
 
-  module _ (crossing : Crossing Point) (op : Operation) (past : Point → Bool) (e : ℕ) (n : next at_binary64 stored here ≡ To e) where
+  module _ (crossing : Crossing Point) (op : Operation) (past : Point → Bool) (e : ℕ) (n : next at_binary64 stored here ≡ Some e) where
     abbrev there : State Pool
     there = turn at_binary64 stored crossing op past (takes here e (is_tied at_binary64 stored here e)) e
 
@@ -129,7 +128,7 @@ ended_at q = let h = q.lined in record { lined = record { good = h.good; queued 
 
 -- ---- at the start
 
-module _ (p : Pool) (n : ℕ) (taken : List ℕ) (h : accept p n taken ≡ Passed) where
+module _ (p : Pool) (n : ℕ) (taken : List ℕ) (h : accept p n taken ≡ Ok tt) where
   lined-first : (room m : ℕ) → stored.size p ≤ room → let w = replicate (stored.size p) true in Lined at_binary64 stored (state p w [] [] (lined_turn (start_turn n) m)) (relined p w 0 n room [])
   unfolding start start_turn lined_turn is_before before_used
   lined-first room m fits =

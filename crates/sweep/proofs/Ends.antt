@@ -1,5 +1,6 @@
 -- Every run ends, and its counts are true of its list and its pool. Each place waits or was taken, so that the flags and the list together have the
 -- pool's size; each step but the last turns one flag off, and there are more steps than flags.
+use Rattle.std.proofs.Common.{None, Option, Some}
 use mathlib.Core.Path.{◌≡◌, refl, sym, ◌∙◌}
 use mathlib.Core.Logic.{◌≢◌}
 use mathlib.Core.Bool.{Bool}
@@ -8,8 +9,6 @@ use Prim.Native.Nat.{ℕ, zero, suc, ◌+◌, ◌*◌, ◌<◌, ◌≤◌}
 use native.Mathlib.Omega.{arith}
 use lib.ListN.{length, length-append}
 use Rattle.refusals.specs.declared.Refusal.{Refusal}
-use Rattle.events.specs.declared.Link.{Link}
-use Rattle.events.specs.declared.Link.TheVariants.{None, To}
 use Rattle.events.specs.Coordinates.{Coordinates, Crossing}
 use Rattle.events.specs.Store.{Store}
 use Rattle.events.proofs.Stored.{Stored}
@@ -44,7 +43,7 @@ module _ {P S : Type 0} (C : Coordinates P) (K : Store P S) (L : Stored K) where
       ended : z'.stop ≡ Ended → Stepped z z'
       onward : suc (trues z'.waits) ≡ trues z.waits → Stepped z z'
 
-    taken-once : (z : State S) (e : ℕ) (rival : Bool) → next C K z ≡ To e → suc (trues (takes z e rival).waits) ≡ trues z.waits
+    taken-once : (z : State S) (e : ℕ) (rival : Bool) → next C K z ≡ Some e → suc (trues (takes z e rival).waits) ≡ trues z.waits
     unfolding next takes
     taken-once z e rival h = one_less z.waits e (first-waits (flagged z.waits) _ z.used e h)
 
@@ -52,9 +51,9 @@ module _ {P S : Type 0} (C : Coordinates P) (K : Store P S) (L : Stored K) where
     unfolding step step_by halt
     stepped z = go (next C K z) refl
       where
-        go : (x : Link) → next C K z ≡ x → Stepped z (step_by C K crossing op late z x)
+        go : (x : Option ℕ) → next C K z ≡ x → Stepped z (step_by C K crossing op late z x)
         go None h = ended refl
-        go (To e) h =
+        go (Some e) h =
             let work = beside C K crossing op late (takes z e (is_tied C K z e)) e in
             onward (rw work.waits (taken-once z e (is_tied C K z e) h))
 
@@ -62,7 +61,7 @@ module _ {P S : Type 0} (C : Coordinates P) (K : Store P S) (L : Stored K) where
     one_more l e = rw length-append (omega arith)
 
     module _ (s : S) (n : ℕ) where
-      counted-to : (z : State S) (e : ℕ) (rival : Bool) → Counted K s n z → next C K z ≡ To e → Counted K s n (turn C K crossing op late (takes z e rival) e)
+      counted-to : (z : State S) (e : ℕ) (rival : Bool) → Counted K s n z → next C K z ≡ Some e → Counted K s n (turn C K crossing op late (takes z e rival) e)
       unfolding takes
       counted-to z e rival k h =
           let work = beside C K crossing op late (takes z e rival) e in
@@ -78,9 +77,9 @@ module _ {P S : Type 0} (C : Coordinates P) (K : Store P S) (L : Stored K) where
       unfolding step step_by halt
       counted_step z k = go (next C K z) refl
         where
-          go : (x : Link) → next C K z ≡ x → Counted K s n (step_by C K crossing op late z x)
+          go : (x : Option ℕ) → next C K z ≡ x → Counted K s n (step_by C K crossing op late z x)
           go None h = record { places = k.places; members = k.members; grows = k.grows }
-          go (To e) h = counted-to z e (is_tied C K z e) k h
+          go (Some e) h = counted-to z e (is_tied C K z e) k h
 
       -- ---- the run
 

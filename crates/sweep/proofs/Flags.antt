@@ -1,4 +1,5 @@
 -- The flags of those that wait: the first of them is one, and taking it leaves one flag less.
+use Rattle.std.proofs.Common.{Some}
 use mathlib.Core.Path.{◌≡◌, refl, sym, ap, ◌∙◌}
 use mathlib.Core.Bool.{Bool, true, false, cond, false≢true}
 use mathlib.Core.List.{List, [], ◌∷◌}
@@ -8,13 +9,12 @@ use lib.ListN.{length, get_or, set, replicate, get_or-eq_default}
 use lib.Seq.{get_or-set_same, get_or-set_other, set_out}
 use lib.Dec.{eqb, ltb, leb-suc-suc}
 use borrow.Author.Tests.{lt-ltb, le-ltb, ltb-true, ltb-false, eqb-true, eqb-false}
-use Rattle.events.specs.declared.Link.TheVariants.{To}
 use Rattle.waiting.specs.Waiting.{first, flagged}
 use Rattle.waiting.proofs.First.{found}
 use Rattle.sweep.specs.Turn.{trues}
 
 -- the event to be taken waits
-pub first-waits : (waits : ℕ → Bool) (before : ℕ → ℕ → Bool) (n e : ℕ) → first waits before n ≡ To e → waits e ≡ true
+pub first-waits : (waits : ℕ → Bool) (before : ℕ → ℕ → Bool) (n e : ℕ) → first waits before n ≡ Some e → waits e ≡ true
 first-waits waits before n e h = (found waits before n e h).waiting
 
 -- ---- the flags as a list

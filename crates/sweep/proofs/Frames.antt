@@ -1,5 +1,6 @@
 -- Through one event's work a record that was in use keeps its key, unless its partner is new after it: a cut gives new partners to the two ends of the
 -- segment that it divides, and no other record is linked anew.
+use Rattle.std.proofs.Common.{Ok}
 use mathlib.Core.Path.{◌≡◌, refl, ap, ◌∙◌, subst}
 use mathlib.Core.Logic.{◌≢◌}
 use mathlib.Core.Bool.{Bool}
@@ -12,7 +13,6 @@ use Rattle.events.proofs.Stored.{Stored}
 use Rattle.events.proofs.Looks.{Blanks}
 use Rattle.events.proofs.Faces.{Face, face-store}
 use Rattle.order.specs.Keys.{key_of, key_used}
-use Rattle.division.specs.declared.Division.TheVariants.{Done}
 use Rattle.division.specs.declared.Divided.{Divided}
 use Rattle.division.specs.Division.{linked, divide}
 use Rattle.division.proofs.Outcomes.{passed, used-after}
@@ -61,7 +61,7 @@ module _ {P S : Type 0} {C : Coordinates P} {K : Store P S} (M : MoveLaws C) (st
     same-partner : r < n → (row' r).partner ≡ (row r).partner
     same-partner l = ap (λ (x : Event P). x.partner) (w.records.rest r (λ e. omega arith) (λ e. omega arith) not_own not-other)
 
-  framed-divided : (s : S) (used i : ℕ) (p : P) → Framed C K t n s used → (d : Divided) → (divide C K s used i p).answer ≡ Done d
+  framed-divided : (s : S) (used i : ℕ) (p : P) → Framed C K t n s used → (d : Divided) → (divide C K s used i p).answer ≡ Ok d
       → Framed C K t n (divide C K s used i p).store (divide C K s used i p).used
   unfolding key_used
   framed-divided s used i p h d q =

@@ -1,4 +1,5 @@
 -- Partners stay mutual and on their proper sides, and points fit, through the whole run; so event order is total and transitive on what waits.
+use Rattle.std.proofs.Common.{Ok}
 use mathlib.Core.Path.{◌≡◌, refl, sym, ap, ap₂, ◌∙◌, subst}
 use mathlib.Core.Logic.{◌≢◌, ⊎_elim}
 use mathlib.Core.Bool.{Bool, true, false, true≢false}
@@ -16,7 +17,6 @@ use Rattle.order.specs.Keys.{key_of}
 use Rattle.order.proofs.Laws.{ahead-asym}
 use Rattle.checks.specs.Checks.{in_order}
 use Rattle.checks.specs.Sound as Checked
-use Rattle.division.specs.declared.Division.TheVariants.{Done}
 use Rattle.division.specs.declared.Divided.{Divided}
 use Rattle.division.specs.Division.{moved, misses, new_end, linked, divide}
 use Rattle.division.proofs.Records.{in_parts}
@@ -164,7 +164,7 @@ module _ {P S : Type 0} {C : Coordinates P} {K : Store P S} (M : MoveLaws C) (st
   good-by : (s : S) (used more : ℕ) → more ≡ used + 2 → used + 2 ≤ K.size s → ((r : ℕ) → r < used + 2 → Sound C (look K s more) (used + 2) r) → Good C K s more
   good-by s used more e f h = record { fits = rw e f; sound = λ r l. subst (λ n. Sound C (look K s more) n r) (sym e) (h r (subst (λ n. r < n) e l)) }
 
-  pub good-divided : (s : S) (used i : ℕ) (p : P) → Good C K s used → (d : Divided) → (divide C K s used i p).answer ≡ Done d
+  pub good-divided : (s : S) (used i : ℕ) (p : P) → Good C K s used → (d : Divided) → (divide C K s used i p).answer ≡ Ok d
       → Good C K (divide C K s used i p).store (divide C K s used i p).used
   good-divided s used i p g d h =
       let ok = passed C K s used i p d h in

@@ -1,4 +1,5 @@
 -- What every end and its partner have in common stays so through the whole sweep, if the two halves of a divided edge inherit it.
+use Rattle.std.proofs.Common.{Ok}
 use mathlib.Core.Path.{◌≡◌, refl, sym, ap, ◌∙◌, subst}
 use mathlib.Core.Logic.{⊎_elim}
 use mathlib.Core.Bool.{Bool, true, false, cond}
@@ -11,7 +12,6 @@ use Rattle.events.proofs.Stored.{Stored}
 use Rattle.events.proofs.Looks.{Blanks, used-or-blank}
 use Rattle.events.proofs.Faces.{Face, face-store}
 use Rattle.class.specs.declared.Operation.{Operation}
-use Rattle.division.specs.declared.Division.TheVariants.{Done}
 use Rattle.division.specs.declared.Divided.{Divided}
 use Rattle.division.specs.Division.{moves, moved, new_end, linked, divide}
 use Rattle.division.proofs.Records.{in_parts}
@@ -102,7 +102,7 @@ module _ {P S : Type 0} {C : Coordinates P} {K : Store P S} {crossing : Crossing
         let same = aside w.records (sound i own).paired r (sound r l).paired not-i not-o in
         at r (row r).partner _ _ same.0 refl same.1 (all r l))
 
-  done : (n : ℕ) (s : S) (i : ℕ) (p : P) (d : Divided) → Inherits n s → Unit {0} → Q p → (divide C K s n i p).answer ≡ Done d → Inherits (divide C K s n i p).used (divide C K s n i p).store
+  done : (n : ℕ) (s : S) (i : ℕ) (p : P) (d : Divided) → Inherits n s → Unit {0} → Q p → (divide C K s n i p).answer ≡ Ok d → Inherits (divide C K s n i p).used (divide C K s n i p).store
   done n s i p d g x q e =
       let ok = passed C K s n i p d e in
       let own = left-in-use M st bl s n i ok.left in

@@ -1,4 +1,5 @@
 -- One run, as two that are the same: an invariant that is kept (`neighbours`) is known after every event, after the run and after the sweep.
+use Rattle.std.proofs.Common.{None, Option, Some}
 use mathlib.Core.Path.{◌≡◌, refl, ap, ◌∙◌}
 use mathlib.Core.Bool.{Bool, false}
 use mathlib.Core.List.{List, [], ◌∷◌}
@@ -6,8 +7,6 @@ use Prim.Native.Nat.{ℕ, suc, ◌<◌}
 use lib.ListN.{set}
 use lib.Dec.{eqb}
 use Rattle.refusals.specs.declared.Refusal.{Refusal}
-use Rattle.events.specs.declared.Link.{Link}
-use Rattle.events.specs.declared.Link.TheVariants.{None, To}
 use Rattle.events.specs.Coordinates.{Coordinates, Crossing}
 use Rattle.events.specs.Store.{Store, look}
 use Rattle.class.specs.declared.Operation.{Operation}
@@ -111,9 +110,9 @@ module _ {P S : Type 0} {C : Coordinates P} {K : Store P S} {crossing : Crossing
       unfolding diagonal next
       next-alike z z' q = go (next C K z) refl
         where
-          go : (o : Link) → next C K z ≡ o → NextAlike (diagonal I) C K C K z z'
+          go : (o : Option ℕ) → next C K z ≡ o → NextAlike (diagonal I) C K C K z z'
           go None p = over p (ap (next C K) q ∙ p)
-          go (To e) p =
+          go (Some e) p =
               takes-up p (ap (next C K) q ∙ p) (record { alike = same (at-hand z.used e (found (flagged z.waits) (is_before C K z) z.used e p).below) }) (ap (λ y. is_tied C K y e) q)
 
       runs-alike : RunLaws (diagonal I) Equal op C K crossing past op C K crossing' past (λ j z. Unit {0})

@@ -1,5 +1,4 @@
 -- Laws of the sweep: what the code does is the definition; the walk through a run; and what is true of every run.
-pub mod Reaches
 pub mod Turns
 pub mod Flags
 pub mod Queued

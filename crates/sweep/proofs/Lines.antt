@@ -1,5 +1,6 @@
 -- The queue through the sweep: its last member is the event to be taken, the one below tells whether another ties, and the work of the event taken leaves
 -- it a queue again, with the new records and the partners that they took put in.
+use Rattle.std.proofs.Common.{Some}
 use mathlib.Core.Path.{◌≡◌, refl, sym, ap, ap₂, ◌∙◌, subst}
 use mathlib.Core.Logic.{◌≢◌}
 use mathlib.Core.Bool.{Bool, true, false}
@@ -9,7 +10,6 @@ use native.Mathlib.Nat.{zero-add}
 use native.Mathlib.Omega.{arith}
 use lib.ListN.{length, take, set}
 use borrow.Author.Tests.{lt-ltb, eq-eqb, ne_eqb}
-use Rattle.events.specs.declared.Link.TheVariants.{To}
 use Rattle.events.specs.Coordinates.{Coordinates, Crossing}
 use Rattle.events.specs.Store.{Store, look}
 use Rattle.events.proofs.Stored.{Stored}
@@ -61,7 +61,7 @@ module _ {P S : Type 0} {C : Coordinates P} {K : Store P S} (M : MoveLaws C) (st
     unfolding next
     lined-next = next-is h.queued
 
-    pub lined-tie : (e : ℕ) → next C K s ≡ To e → ties_with (is_before C K s) e (below l (length l - 1)) ≡ is_tied C K s e
+    pub lined-tie : (e : ℕ) → next C K s ≡ Some e → ties_with (is_before C K s) e (below l (length l - 1)) ≡ is_tied C K s e
     unfolding is_tied
     lined-tie e n = tie-is h.queued (orders s h.good) e (lined-next ∙ n)
 
@@ -69,11 +69,11 @@ module _ {P S : Type 0} {C : Coordinates P} {K : Store P S} (M : MoveLaws C) (st
     lined-few = few h.queued (orders s h.good)
 
     -- the event found, taken out
-    lined-found : (e : ℕ) → next C K s ≡ To e → Found (flagged s.waits) s.used e
+    lined-found : (e : ℕ) → next C K s ≡ Some e → Found (flagged s.waits) s.used e
     unfolding next
     lined-found e n = found (flagged s.waits) (is_before C K s) s.used e n
 
-    lined-take : (e : ℕ) → next C K s ≡ To e → Queued (flagged (set s.waits e false)) (is_before C K s) s.used (take (length l - 1) l)
+    lined-take : (e : ℕ) → next C K s ≡ Some e → Queued (flagged (set s.waits e false)) (is_before C K s) s.used (take (length l - 1) l)
     lined-take e n =
         take-is h.queued (orders s h.good) e (lined-next ∙ n) (flagged (set s.waits e false)) (taken-flag s.waits e)
         (λ r d. other-flags s.waits e r d)
@@ -100,7 +100,7 @@ module _ {P S : Type 0} {C : Coordinates P} {K : Store P S} (M : MoveLaws C) (st
   -- ---- one event's work
 
   module _ (crossing : Crossing P) (op : Operation) (past : P → Bool) (s : State S) (l : List ℕ) (room : ℕ) (h : Lined C K s l) (fits : K.size s.store ≤ room)
-      (e : ℕ) (b : Bool) (n : next C K s ≡ To e) where
+      (e : ℕ) (b : Bool) (n : next C K s ≡ Some e) where
     abbrev s' : State S
     s' = turn C K crossing op past (takes s e b) e
 

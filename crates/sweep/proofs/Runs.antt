@@ -1,4 +1,5 @@
 -- One step of the code, and the run backwards: what is left of it from here is what it was at the start.
+use Rattle.std.proofs.Common.{None, Option, Some}
 use mathlib.Core.Path.{◌≡◌, refl, sym, ◌∙◌}
 use mathlib.Core.Bool.{Bool, true, false, false≢true, true≢false}
 use mathlib.Core.List.{List, [], ◌∷◌, ◌++◌}
@@ -8,8 +9,6 @@ use native.Mathlib.Omega.{arith}
 use lib.ListN.{length, take, drop, set, length-set}
 use lib.Seq.{take-suc-set, drop-set-lt, drop-drop}
 use Rattle.numbers.specs.declared.Point.{Point}
-use Rattle.events.specs.declared.Link.{Link}
-use Rattle.events.specs.declared.Link.TheVariants.{None, To}
 use Rattle.events.specs.Binary64.{at_binary64}
 use Rattle.events.specs.Coordinates.{Coordinates, Crossing}
 use Rattle.events.specs.Pool.{Pool, stored}
@@ -29,13 +28,13 @@ use Rattle.sweep.proofs.AtBinary64.{relined}
 
 -- ---- one step
 
-module _ (crossing : Crossing Point) (p : Pool) (w : List Bool) (status taken : List ℕ) (t : Turn) (op : Operation) (past : Point → Bool) (n : Link) (is : n ≡ next at_binary64 stored (state p w (take t.members status) (take t.count taken) t)) where
+module _ (crossing : Crossing Point) (p : Pool) (w : List Bool) (status taken : List ℕ) (t : Turn) (op : Operation) (past : Point → Bool) (n : Option ℕ) (is : n ≡ next at_binary64 stored (state p w (take t.members status) (take t.count taken) t)) where
   pub step-none : (r : Turn) → n ≡ None → r ≡ ended_turn t
       → state p w (take r.members status) (take r.count taken) r ≡ step at_binary64 stored crossing op past (state p w (take t.members status) (take t.count taken) t)
   unfolding step step_by halt ended_turn
   step-none r h hr = rw (hr, ← is, h)
 
-  pub step-some : (e : ℕ) (rival : Bool) (u r : Turn) (p' : Pool) (w' : List Bool) (l' taken' : List ℕ) → n ≡ To e → rival ≡ is_tied at_binary64 stored (state p w (take t.members status) (take t.count taken) t) e → t.count < length taken
+  pub step-some : (e : ℕ) (rival : Bool) (u r : Turn) (p' : Pool) (w' : List Bool) (l' taken' : List ℕ) → n ≡ Some e → rival ≡ is_tied at_binary64 stored (state p w (take t.members status) (take t.count taken) t) e → t.count < length taken
       → u ≡ taken_turn t rival → w' ≡ set w e false → taken' ≡ set taken t.count e
       → Does (λ z. turn at_binary64 stored crossing op past z e) p (take u.members status) u p' l' r → Worked u r
       → state p' w' l' (take r.count taken') r ≡ step at_binary64 stored crossing op past (state p w (take t.members status) (take t.count taken) t)
@@ -45,7 +44,7 @@ module _ (crossing : Crossing Point) (p : Pool) (w : List Bool) (status taken : 
       rw k.count (d.is w' (take u.count taken') ∙ rw (hu, hw, ht, more, ← is, h, ← hr))
 
 -- the event to be taken waits
-pub next-waits : {P S : Type 0} (C : Coordinates P) (K : Store P S) (s : State S) (e : ℕ) → next C K s ≡ To e → flagged s.waits e ≡ true
+pub next-waits : {P S : Type 0} (C : Coordinates P) (K : Store P S) (s : State S) (e : ℕ) → next C K s ≡ Some e → flagged s.waits e ≡ true
 unfolding next
 next-waits C K s e h = first-waits _ _ _ e h
 
@@ -117,9 +116,6 @@ module _ (t r : Turn) (h : r ≡ ended_turn t) where
   unfolding ended_turn
   beyond-ended taken = rw h (record { more = omega arith; rest = refl })
 
-pub beyond-still : (taken : List ℕ) (t : Turn) → Beyond taken taken t t
-beyond-still taken t = record { more = omega arith; rest = refl }
-
 further : (m n : ℕ) (a b : List ℕ) → m ≤ n → drop m a ≡ drop m b → drop n a ≡ drop n b
 further m n a b h e =
     let q : n ≡ m + (n - m) = omega arith in
@@ -164,12 +160,3 @@ module _ {P S : Type 0} (C : Coordinates P) (K : Store P S) (crossing : Crossing
   run_on steps k s x g b i l h f e =
       let d : steps - (k + 1) ≡ steps - k - 1 = omega arith in
       rw d (run_more (steps - k) s x (omega arith) (sym h ∙ f) e ∙ i)
-
--- the arrays keep their lengths
-pub record Lengths (p₀ p : Pool) (w₀ w : List Bool) (q₀ q l₀ l k₀ k : List ℕ) : Type 0 where
-  pub points : length p.points ≡ length p₀.points
-  pub marks : length p.marks ≡ length p₀.marks
-  pub waits : length w ≡ length w₀
-  pub queue : length q ≡ length q₀
-  pub status : length l ≡ length l₀
-  pub taken : length k ≡ length k₀

@@ -1,14 +1,15 @@
 -- The whole sweep: what the run starts from, and what its last turn tells.
+use Rattle.std.proofs.Common.{Err, Ok, Option}
+use Rattle.refusals.specs.Refusals.{Verdict, passed}
 use mathlib.Core.Path.{◌≡◌, refl, ap, ◌∙◌}
 use mathlib.Core.Bool.{Bool, true, false, not, cond, ◌||◌}
 use mathlib.Core.List.{List, [], ◌∷◌}
-use mathlib.Core.Option.{Option}
 use Prim.Native.Nat.{ℕ, zero, suc, ◌+◌, ◌-◌, ◌/◌, ◌≤◌}
 use native.Mathlib.Numerals.{add-one}
 use native.Mathlib.Omega.{arith}
 use borrow.Author.Tests.{eqb-true, ltb-false, not-false}
 use lib.Dec.{eqb, ltb}
-use lib.ListN.{length, take, drop, replicate, length-replicate, take-append-drop}
+use lib.ListN.{length, take, drop, replicate, take-append-drop}
 use lib.Seq.{sets, length-take-le}
 use Rattle.lists.proofs.Fronts.{sets-front}
 use Rattle.refusals.specs.declared.Refusal.{Refusal}
@@ -18,13 +19,10 @@ use Rattle.events.specs.Coordinates.{Crossing}
 use Rattle.events.specs.Pool.{Pool, size, row_at, stored}
 use Rattle.events.proofs.Stored.{pool-stored}
 use Rattle.class.specs.declared.Operation.{Operation}
-use Rattle.checks.specs.declared.Check.{Check}
-use Rattle.checks.specs.declared.Check.TheVariants.{Passed, Refused}
 use Rattle.checks.specs.Checks.{max_events, missized, size_refusal, sized}
 use Rattle.checks.specs.Sound.{Sized}
 use Rattle.checks.proofs.Told.{not-both, both-passed}
 use Rattle.checks.proofs.Passed.{sized-passed}
-use Rattle.sweep.specs.declared.Outcome.{Outcome}
 use Rattle.sweep.specs.declared.turn.Turn.{Turn}
 use Rattle.sweep.specs.State.{State, start}
 use Rattle.sweep.specs.Bounds.{rightmost, is_past, past}
@@ -37,7 +35,7 @@ use Rattle.sweep.proofs.Ends.{counted}
 -- ---- the checks
 
 -- the lent arrays of an accepted pool are of one size, and hold all records loaded
-pub accepted : (p : Pool) (n : ℕ) (taken : List ℕ) → accept p n taken ≡ Passed → Sized (length p.points) (length p.marks) × (length p.points ≡ length taken) × (n ≤ length p.points)
+pub accepted : (p : Pool) (n : ℕ) (taken : List ℕ) → accept p n taken ≡ Ok tt → Sized (length p.points) (length p.marks) × (length p.points ≡ length taken) × (n ≤ length p.points)
 unfolding accept sizes sized
 accepted p n taken h = by (missized a b) refl (not (eqb a k)) refl (ltb a n) refl (both-passed (sizes a b k n) _ h).0
   where
@@ -50,7 +48,7 @@ accepted p n taken h = by (missized a b) refl (not (eqb a k)) refl (ltb a n) ref
     k : ℕ
     k = length taken
 
-    by : (x : Bool) → missized a b ≡ x → (y : Bool) → not (eqb a k) ≡ y → (z : Bool) → ltb a n ≡ z → cond (x || (y || z)) (Refused size_refusal) Passed ≡ Passed → Sized a b × (a ≡ k) × (n ≤ a)
+    by : (x : Bool) → missized a b ≡ x → (y : Bool) → not (eqb a k) ≡ y → (z : Bool) → ltb a n ≡ z → cond (x || (y || z)) (Err size_refusal) passed ≡ Ok tt → Sized a b × (a ≡ k) × (n ≤ a)
     by true i y j z l e = absurd (not-both _ _ e refl)
     by false i true j z l e = absurd (not-both _ _ e refl)
     by false i false j true l e = absurd (not-both _ _ e refl)
@@ -62,7 +60,7 @@ pub places-are : (p : Pool) → Sized (length p.points) (length p.marks) → len
 unfolding stored size
 places-are p s = omega (arith, s.equal)
 
-pub loaded-within : (p : Pool) (n : ℕ) (taken : List ℕ) → accept p n taken ≡ Passed → n ≤ stored.size p
+pub loaded-within : (p : Pool) (n : ℕ) (taken : List ℕ) → accept p n taken ≡ Ok tt → n ≤ stored.size p
 loaded-within p n taken h = let a = accepted p n taken h in omega (arith, a.2, places-are p a.0)
 
 prefix : {A : Type 0} (n m : ℕ) (a : A) → n ≤ m → take n (replicate m a) ≡ replicate n a
@@ -72,14 +70,8 @@ prefix (suc n) (suc m) a h = ap (λ l. a ∷ l) (prefix n m a (omega arith))
 
 -- the flags of the pool's places, in an array of flags for so many
 module _ (n : ℕ) (w : List Bool) (queue status : List ℕ) (l : Lends n w queue status) where
-  pub enough-flags : n ≤ length w
-  enough-flags = rw (l.flags, length-replicate) l.room
-
   pub flags-at-start : take n w ≡ replicate n true
   flags-at-start = rw l.flags (prefix n l.places true l.room)
-
-  pub as-many-flags : n ≡ length (take n w)
-  as-many-flags = rw (flags-at-start, length-replicate)
 
 -- the same of a pool, and its queue's room
 module _ (p : Pool) (w : List Bool) (queue status : List ℕ) (s : Sized (length p.points) (length p.marks)) (l : Lends (length p.points) w queue status) where
@@ -132,7 +124,7 @@ module _ (crossing : Crossing Point) (p : Pool) (n loaded waiting : ℕ) (op : O
       let same = ap (λ (z : State Pool). z.used) swept-state in
       omega (arith, more, same)
 
-  pub swept-is : (o : Outcome) (status' taken taken' : List ℕ) → k' ≡ take r.count taken' → o ≡ outcome_of r.stop → Fits w' status' taken' r → Beyond taken taken' t r → length taken' ≡ length taken
+  pub swept-is : (o : Verdict) (status' taken taken' : List ℕ) → k' ≡ take r.count taken' → o ≡ outcome_of r.stop → Fits w' status' taken' r → Beyond taken taken' t r → length taken' ≡ length taken
       → after (record { taken = r.count; divisions = (r.used - loaded) / 2; used = r.used; tied = r.tied; outcome = o }) p' taken' ≡ after_run (subdivide at_binary64 stored crossing op p loaded) loaded taken
   unfolding after_run answer_of divisions
   swept-is o status' taken taken' hk' ho fits beyond same =
@@ -143,11 +135,11 @@ module _ (crossing : Crossing Point) (p : Pool) (n loaded waiting : ℕ) (op : O
 
 -- ---- refused, or swept
 
-module _ (op : Operation) (mode : ℕ) (p : Pool) (n : ℕ) (taken : List ℕ) (x : Check) (is : x ≡ accept p n taken) where
-  pub refused-is : (r : Refusal) → x ≡ Refused r → as_lent r p n taken ≡ subdivide_pool op mode p n taken
+module _ (op : Operation) (mode : ℕ) (p : Pool) (n : ℕ) (taken : List ℕ) (x : Verdict) (is : x ≡ accept p n taken) where
+  pub refused-is : (r : Refusal) → x ≡ Err r → as_lent r p n taken ≡ subdivide_pool op mode p n taken
   unfolding subdivide_pool after_checks
   refused-is r h = rw (← is, h)
 
-  pub passed_is : (y : After) → x ≡ Passed → y ≡ after_run (subdivide at_binary64 stored (in_mode mode) op p n) n taken → y ≡ subdivide_pool op mode p n taken
+  pub passed_is : (y : After) → x ≡ Ok tt → y ≡ after_run (subdivide at_binary64 stored (in_mode mode) op p n) n taken → y ≡ subdivide_pool op mode p n taken
   unfolding subdivide_pool after_checks
   passed_is y h e = rw (← is, h) e

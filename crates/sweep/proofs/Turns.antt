@@ -1,4 +1,5 @@
 -- The code's steps of one event, one equation each, put together to the definition's next state.
+use Rattle.std.proofs.Common.{Err, None, Ok, Option, Result}
 use mathlib.Core.Path.{◌≡◌, refl}
 use mathlib.Core.Bool.{Bool, true, false}
 use mathlib.Core.List.{List}
@@ -14,16 +15,12 @@ use Rattle.numbers.specs.declared.Point.{Point}
 use Rattle.lists.specs.Lists.{slot, insert_at, inserted, removed}
 use Rattle.lists.proofs.Slots.{slot-within}
 use Rattle.lists.proofs.Members.{members-inserted, members-removed}
-use Rattle.events.specs.declared.Link.{Link}
-use Rattle.events.specs.declared.Link.TheVariants.{None}
 use Rattle.events.specs.Binary64.{at_binary64}
 use Rattle.events.specs.Coordinates.{Crossing}
 use Rattle.events.specs.Event.{Event}
 use Rattle.events.specs.Pool.{Pool, stored}
 use Rattle.events.specs.Store.{look}
 use Rattle.class.specs.declared.Operation.{Operation}
-use Rattle.neighbours.specs.declared.Met.{Met}
-use Rattle.neighbours.specs.declared.Met.TheVariants.{Code, Refused}
 use Rattle.neighbours.specs.Neighbours.{meeting}
 use Rattle.status.specs.Status.{member, below}
 use Rattle.sweep.specs.declared.turn.Turn.{Turn}
@@ -35,16 +32,13 @@ use Rattle.sweep.specs.Turn.{ended_turn, met_turn, Does, Worked}
 -- ---- the turns that the code makes
 
 module _ (t r : Turn) where
-  pub worked-met : (m n : ℕ) (x : Met) → r ≡ met_turn t m n x → m ≤ t.members + 1 → Worked t r
+  pub worked-met : (m n : ℕ) (x : Result ℕ Refusal) → r ≡ met_turn t m n x → m ≤ t.members + 1 → Worked t r
   unfolding met_turn
   worked-met m n x h b = rw h (record { count = refl; members = b })
 
   pub worked-ended : r ≡ ended_turn t → Worked t r
   unfolding ended_turn
   worked-ended h = rw h (record { count = refl; members = omega arith })
-
-pub worked-still : (t : Turn) → Worked t t
-worked-still t = record { count = refl; members = omega arith }
 
 -- ---- a segment enters
 
@@ -57,7 +51,7 @@ members-in status n k e h r =
     let q = length-take n status in
     rw add-one (members-inserted status n k e (omega arith) r)
 
-pub enter-does : (crossing : Crossing Point) (s s' : Pool) (status status' : List ℕ) (t r : Turn) (op : Operation) (e k n : ℕ) (lower upper lowest : Link) (x : Met) → t.members < length status
+pub enter-does : (crossing : Crossing Point) (s s' : Pool) (status status' : List ℕ) (t r : Turn) (op : Operation) (e k n : ℕ) (lower upper lowest : Option ℕ) (x : Result ℕ Refusal) → t.members < length status
     → k ≡ slot (is_below at_binary64 stored crossing s t.used e) (take t.members status) → lower ≡ below (take t.members status) k → upper ≡ member (take t.members status) k → lowest ≡ below (take t.members status) (k - 1)
     → meeting s' n x ≡ between at_binary64 stored op crossing s t.used e lower upper lowest → status' ≡ inserted status t.members k e → r ≡ met_turn t (t.members + 1) n x
     → Does (λ z. enter at_binary64 stored crossing op z e) s (take t.members status) t s' (take r.members status') r
@@ -70,13 +64,13 @@ enter-does crossing s s' status status' t r op e k n lower upper lowest x room h
 
 -- ---- a segment leaves
 
-module _ (crossing : Crossing Point) (s s' : Pool) (status : List ℕ) (t r : Turn) (k n : ℕ) (lower upper : Link) (x : Met) (hl : lower ≡ below (take t.members status) k) (hu : upper ≡ member (take t.members status) (k + 1)) (hm : meeting s' n x ≡ close_up at_binary64 stored crossing s t.used lower upper) where
-  pub leave-refused : (q : Refusal) → x ≡ Refused q → r ≡ met_turn t t.members n x
+module _ (crossing : Crossing Point) (s s' : Pool) (status : List ℕ) (t r : Turn) (k n : ℕ) (lower upper : Option ℕ) (x : Result ℕ Refusal) (hl : lower ≡ below (take t.members status) k) (hu : upper ≡ member (take t.members status) (k + 1)) (hm : meeting s' n x ≡ close_up at_binary64 stored crossing s t.used lower upper) where
+  pub leave-refused : (q : Refusal) → x ≡ Err q → r ≡ met_turn t t.members n x
       → Does (λ z. leave_at at_binary64 stored crossing z k) s (take t.members status) t s' (take r.members status) r
   unfolding leave_at and_then go_on meets met_turn stop_by
   leave-refused q h hr = record { is = λ waits taken. rw (hr, ← hl, ← rw add-one at hu, ← hm, h) }
 
-  pub leave-done : (code : ℕ) (status' : List ℕ) → k < t.members → t.members ≤ length status → x ≡ Code code → status' ≡ removed status t.members k → r ≡ met_turn t (t.members - 1) n x
+  pub leave-done : (code : ℕ) (status' : List ℕ) → k < t.members → t.members ≤ length status → x ≡ Ok code → status' ≡ removed status t.members k → r ≡ met_turn t (t.members - 1) n x
       → Does (λ z. leave_at at_binary64 stored crossing z k) s (take t.members status) t s' (take r.members status') r
   unfolding leave_at and_then go_on meets ranked met_turn stop_by
   leave-done code status' there fit h hs hr =

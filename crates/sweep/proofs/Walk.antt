@@ -1,11 +1,11 @@
 -- Two runs side by side: where what one event does is alike (`sweep_events`), and the event taken at each step is, so are the runs. The walk's last part.
+use Rattle.std.proofs.Common.{None, Some}
 use mathlib.Core.Path.{◌≡◌, refl, ap}
 use mathlib.Core.Bool.{Bool, false, ◌||◌}
 use mathlib.Core.List.{List}
 use Prim.Native.Nat.{ℕ, zero, suc, ◌-◌}
 use lib.ListN.{length, set}
 use lib.Dec.{eqb, ltb}
-use Rattle.events.specs.declared.Link.TheVariants.{None, To}
 use Rattle.lists.specs.Lists.{slot}
 use Rattle.events.specs.Coordinates.{Coordinates, Crossing}
 use Rattle.events.specs.Event.{Key, key}
@@ -29,7 +29,7 @@ use Rattle.sweep.proofs.Abreast.{empty, joined, lists-long, lists-member, lists-
 -- the event to be taken, in two states
 pub data NextAlike {P S P' S' : Type 0} (B : Likeness P S P' S') (C : Coordinates P) (K : Store P S) (C' : Coordinates P') (K' : Store P' S') (z : State S) (z' : State S') : Type 0 where
   over : next C K z ≡ None → next C' K' z' ≡ None → NextAlike B C K C' K' z z'
-  takes-up : {e e' : ℕ} → next C K z ≡ To e → next C' K' z' ≡ To e' → NumbersAlike B z.used e e' → is_tied C' K' z' e' ≡ is_tied C K z e → NextAlike B C K C' K' z z'
+  takes-up : {e e' : ℕ} → next C K z ≡ Some e → next C' K' z' ≡ Some e' → NumbersAlike B z.used e e' → is_tied C' K' z' e' ≡ is_tied C K z e → NextAlike B C K C' K' z z'
 
 -- what one event asks beside classes and meetings
 pub record TurnLaws {P S P' S' : Type 0} (B : Likeness P S P' S') (op : Operation) (C : Coordinates P) (K : Store P S) (crossing : Crossing P) (past : P → Bool)

@@ -1,8 +1,9 @@
 -- A run that no event ends early takes every event: a flag is down where an event was taken, and it ends where no flag is up.
+use Rattle.std.proofs.Common.{Err, None, Ok, Result, Some, Option}
+use Rattle.refusals.specs.declared.Refusal.{Refusal}
 use mathlib.Core.Path.{◌≡◌, refl, sym, ◌∙◌}
 use mathlib.Core.Logic.{◌≢◌}
 use mathlib.Core.Bool.{Bool, true, false, cond, false≢true}
-use mathlib.Core.Option.{Option}
 use mathlib.Core.List.Memᴰ
 use mathlib.Core.List.{List, [], ◌∷◌, ◌++◌, Memᴰ}
 use Prim.Native.Nat.{ℕ, zero, suc, ◌≤◌, ◌<◌}
@@ -11,14 +12,10 @@ use borrow.Author.Tests.{eqb-true, lt-ltb}
 use lib.Dec.{eqb, ltb}
 use lib.ListN.{length, set}
 use Rattle.lists.specs.Lists.{slot}
-use Rattle.events.specs.declared.Link.{Link}
-use Rattle.events.specs.declared.Link.TheVariants.{None, To}
 use Rattle.events.specs.Coordinates.{Coordinates, Crossing}
 use Rattle.events.specs.Store.{Store, look}
 use Rattle.events.proofs.Stored.{Stored}
 use Rattle.class.specs.declared.Operation.{Operation}
-use Rattle.neighbours.specs.declared.Met.{Met}
-use Rattle.neighbours.specs.declared.Met.TheVariants.{Code, Refused as NotMet}
 use Rattle.neighbours.specs.Neighbours.{Meeting}
 use Rattle.waiting.specs.Waiting.{flagged}
 use Rattle.waiting.proofs.First.{found_none}
@@ -34,10 +31,10 @@ use Rattle.sweep.proofs.Ends.{used-within}
 
 -- ---- an event's work does not end the run
 
-met-on : (m : Met) → stop_by m ≢ Ended
+met-on : (m : Result ℕ Refusal) → stop_by m ≢ Ended
 unfolding stop_by
-met-on (Code c) h = let z : ◌≡◌ {A = ℕ} 0 1 = cc in omega arith
-met-on (NotMet r) h = let z : ◌≡◌ {A = ℕ} 0 1 = cc in omega arith
+met-on (Ok c) h = let z : ◌≡◌ {A = ℕ} 0 1 = cc in omega arith
+met-on (Err r) h = let z : ◌≡◌ {A = ℕ} 0 1 = cc in omega arith
 
 going_on : Going ≢ Ended
 going_on h = let z : ◌≡◌ {A = ℕ} 0 1 = cc in omega arith
@@ -101,9 +98,9 @@ module _ {P S : Type 0} (C : Coordinates P) (K : Store P S) where
       unfolding step step_by halt next is_before
       whole-step z on w = go (next C K z) refl
         where
-          go : (x : Link) → next C K z ≡ x → Whole (step_by C K crossing op late z x)
+          go : (x : Option ℕ) → next C K z ≡ x → Whole (step_by C K crossing op late z x)
           go None h = record { listed = w.listed; over = λ q. h }
-          go (To e) h = whole-turn z e (is_tied C K z e) on w
+          go (Some e) h = whole-turn z e (is_tied C K z e) on w
 
       whole_run : (k : ℕ) (z : State S) → Whole z → Whole (run C K crossing op late k z)
       unfolding run go_on

@@ -1,12 +1,12 @@
 -- The number and the values that stand for how a sweep ends (01, end of 'Forms for each place'): 0, or the refusal's number with its place.
-use Rattle.std.specs.Prelude.{ℕ, List, [], ◌∷◌}
-use Rattle.sweep.specs.declared.Outcome.{Outcome}
-use Rattle.sweep.specs.declared.Outcome.TheVariants.{Done, Refused}
+use Rattle.refusals.specs.Refusals.{number}
+use Rattle.std.specs.Prelude.{ℕ, List, [], ◌∷◌, Err, Ok}
+use Rattle.refusals.specs.Refusals.{Verdict}
 
-unfoldable pub number_of : Outcome → ℕ
-number_of Done = 0
-number_of (Refused why) = why.number
+unfoldable pub number_of : Verdict → ℕ
+number_of (Ok _) = 0
+number_of (Err why) = number why.reason
 
-unfoldable pub values_of : Outcome → List ℕ
-values_of Done = []
-values_of (Refused why) = why.place ∷ []
+unfoldable pub values_of : Verdict → List ℕ
+values_of (Ok _) = []
+values_of (Err why) = why.place ∷ []

@@ -1,17 +1,14 @@
 -- The sweep of a lent pool, at binary64 and in a mode of crossing: checks 1, 2 and 4 over all loaded records, then the run. What the lent arrays hold afterwards, refused or not.
-use Rattle.std.specs.Prelude.{false, not, cond, ◌||◌, List, ℕ, length, eqb, ltb}
+use Rattle.std.specs.Prelude.{false, not, cond, ◌||◌, List, ℕ, length, eqb, ltb, Err, Ok}
+use Rattle.refusals.specs.Refusals.{Verdict}
 use Rattle.std.proofs.lemmas.List.Edits.{sets}
 use Rattle.refusals.specs.declared.Refusal.{Refusal}
 use Rattle.events.specs.Binary64.{at_binary64, in_mode}
 use Rattle.events.specs.Pool.{Pool, row_at, stored}
 use Rattle.class.specs.declared.Operation.{Operation}
-use Rattle.checks.specs.declared.Check.{Check}
-use Rattle.checks.specs.declared.Check.TheVariants.{Passed, Refused as Struck}
 use Rattle.checks.specs.Checks.{missized, size_refusal, checked, and_then}
 use Rattle.checks.specs.Numbers.{numbers_from}
 use Rattle.sweep.specs.declared.Swept.{Swept}
-use Rattle.sweep.specs.declared.Outcome.{Outcome}
-use Rattle.sweep.specs.declared.Outcome.TheVariants.{Done, Refused}
 use Rattle.sweep.specs.declared.turn.Stop as D
 use Rattle.sweep.specs.declared.turn.Stop.TheVariants as Stops
 use Rattle.sweep.specs.State.{State}
@@ -27,18 +24,18 @@ abbrev pub after : Swept → Pool → List ℕ → After
 after x p taken = record { answer = x; pool = p; taken = taken }
 
 -- 1: the pool's arrays, of which the taken list is one, unequal or above the limit, or more records loaded than there are places
-unfoldable pub sizes : (points marks taken loaded : ℕ) → Check
+unfoldable pub sizes : (points marks taken loaded : ℕ) → Verdict
 sizes points marks taken loaded =
-    cond (missized points marks || (not (eqb points taken) || ltb points loaded)) (Struck size_refusal) Passed
+    cond (missized points marks || (not (eqb points taken) || ltb points loaded)) (Err size_refusal) (Ok tt)
 
-unfoldable pub accept : Pool → ℕ → List ℕ → Check
+unfoldable pub accept : Pool → ℕ → List ℕ → Verdict
 accept p n taken =
     and_then (sizes (length p.points) (length p.marks) (length taken) n) (checked at_binary64 (row_at p) n (numbers_from 0 n))
 
-unfoldable pub outcome_of : D.Stop → Outcome
-outcome_of Stops.Going = Done
-outcome_of Stops.Ended = Done
-outcome_of (Stops.Refused r) = Refused r
+unfoldable pub outcome_of : D.Stop → Verdict
+outcome_of Stops.Going = Ok tt
+outcome_of Stops.Ended = Ok tt
+outcome_of (Stops.Refused r) = Err r
 
 -- the counts, from the taken list and the pool's growth
 unfoldable pub answer_of : State Pool → ℕ → Swept
@@ -51,11 +48,11 @@ after_run s n lent = record { answer = answer_of s n; pool = s.store; taken = se
 
 unfoldable pub as_lent : Refusal → Pool → ℕ → List ℕ → After
 as_lent r p n lent =
-    record { answer = record { taken = 0; divisions = 0; used = n; tied = false; outcome = Refused r }; pool = p; taken = lent }
+    record { answer = record { taken = 0; divisions = 0; used = n; tied = false; outcome = Err r }; pool = p; taken = lent }
 
-unfoldable pub after_checks : Check → Operation → (mode : ℕ) → Pool → ℕ → List ℕ → After
-after_checks Passed op mode p n lent = after_run (subdivide at_binary64 stored (in_mode mode) op p n) n lent
-after_checks (Struck r) op mode p n lent = as_lent r p n lent
+unfoldable pub after_checks : Verdict → Operation → (mode : ℕ) → Pool → ℕ → List ℕ → After
+after_checks (Ok _) op mode p n lent = after_run (subdivide at_binary64 stored (in_mode mode) op p n) n lent
+after_checks (Err r) op mode p n lent = as_lent r p n lent
 
 unfoldable pub subdivide_pool : Operation → (mode : ℕ) → Pool → ℕ → List ℕ → After
 subdivide_pool op mode p n taken = after_checks (accept p n taken) op mode p n taken

@@ -1,7 +1,5 @@
 -- One step and the run: events are taken until none waits, one lies past all that matters, or one is refused.
-use Rattle.std.specs.Prelude.{Bool, ℕ, zero, suc, ◌-◌, ◌/◌}
-use Rattle.events.specs.declared.Link.{Link}
-use Rattle.events.specs.declared.Link.TheVariants.{None, To}
+use Rattle.std.specs.Prelude.{Bool, ℕ, zero, suc, ◌-◌, ◌/◌, None, Option, Some}
 use Rattle.events.specs.Coordinates.{Coordinates, Crossing}
 use Rattle.events.specs.Store.{Store}
 use Rattle.order.specs.Order.{before}
@@ -18,7 +16,7 @@ module _ {P S : Type 0} (C : Coordinates P) (K : Store P S) where
   is_before s a b = before C (key_used K s.store s.used a) (key_used K s.store s.used b)
 
   -- the event to be taken
-  unfoldable pub next : State S → Link
+  unfoldable pub next : State S → Option ℕ
   next s = first (flagged s.waits) (is_before s) s.used
 
   -- another waiting event ties with e
@@ -26,9 +24,9 @@ module _ {P S : Type 0} (C : Coordinates P) (K : Store P S) where
   is_tied s e = rivalled (flagged s.waits) (is_before s) e s.used
 
   module _ (crossing : Crossing P) (op : Operation) (past : P → Bool) where
-    unfoldable pub step_by : State S → Link → State S
+    unfoldable pub step_by : State S → Option ℕ → State S
     step_by s None = halt s Ended
-    step_by s (To e) = turn C K crossing op past (takes s e (is_tied s e)) e
+    step_by s (Some e) = turn C K crossing op past (takes s e (is_tied s e)) e
 
     unfoldable pub step : State S → State S
     step s = step_by s (next s)

@@ -1,7 +1,6 @@
 -- What the sweep carries from event to event, over any store.
-use Rattle.std.specs.Prelude.{Bool, true, false, ◌||◌, List, [], ◌∷◌, ◌++◌, ℕ, set, replicate}
-use Rattle.neighbours.specs.declared.Met.{Met}
-use Rattle.neighbours.specs.declared.Met.TheVariants.{Code, Refused as NotMet}
+use Rattle.std.specs.Prelude.{Bool, true, false, ◌||◌, List, [], ◌∷◌, ◌++◌, ℕ, set, replicate, Err, Ok, Result}
+use Rattle.refusals.specs.declared.Refusal.{Refusal}
 use Rattle.neighbours.specs.Neighbours.{Meeting}
 use Rattle.sweep.specs.declared.turn.Stop.{Stop}
 use Rattle.sweep.specs.declared.turn.Stop.TheVariants.{Going, Ended, Refused}
@@ -56,9 +55,9 @@ and_then s next = go_on s.stop s next
 
 -- ---- what neighbours leave
 
-unfoldable pub stop_by : Met → Stop
-stop_by (Code c) = Going
-stop_by (NotMet r) = Refused r
+unfoldable pub stop_by : Result ℕ Refusal → Stop
+stop_by (Ok c) = Going
+stop_by (Err r) = Refused r
 
 unfoldable pub meets : {S : Type 0} → State S → Meeting S → State S
 meets s m = record { store = m.store; used = m.used; waits = s.waits; status = s.status; taken = s.taken; tied = s.tied; stop = stop_by m.met }

@@ -1,9 +1,9 @@
 -- The code's turn beside its arrays, as a state of the sweep, and the turns that it makes.
-use Rattle.std.specs.Prelude.{Bool, true, false, cond, ◌||◌, List, [], ◌∷◌, ◌≡◌, ℕ, zero, suc, ◌+◌, ◌≤◌, length, take, drop, replicate}
+use Rattle.std.specs.Prelude.{Bool, true, false, cond, ◌||◌, List, [], ◌∷◌, ◌≡◌, ℕ, zero, suc, ◌+◌, ◌≤◌, length, take, drop, replicate, Result}
+use Rattle.refusals.specs.declared.Refusal.{Refusal}
 use Rattle.events.specs.Binary64.{at_binary64}
 use Rattle.events.specs.Pool.{Pool, stored}
 use Rattle.checks.specs.Checks.{max_events}
-use Rattle.neighbours.specs.declared.Met.{Met}
 use Rattle.sweep.specs.declared.turn.Turn.{Turn}
 use Rattle.sweep.specs.declared.turn.Stop.{Stop}
 use Rattle.sweep.specs.declared.turn.Stop.TheVariants.{Going, Ended, Refused}
@@ -30,7 +30,7 @@ unfoldable pub taken_turn : Turn → Bool → Turn
 taken_turn t rival = record { used = t.used; members = t.members; waiting = t.waiting; count = t.count + 1; tied = t.tied || rival; stop = t.stop }
 
 -- after a meeting, with this many members
-unfoldable pub met_turn : Turn → ℕ → ℕ → Met → Turn
+unfoldable pub met_turn : Turn → ℕ → ℕ → Result ℕ Refusal → Turn
 met_turn t members used met = record { used = used; members = members; waiting = t.waiting; count = t.count; tied = t.tied; stop = stop_by met }
 
 -- with this many in the queue

@@ -11,31 +11,25 @@ use events::points::less_x;
 use events::pool::read_event;
 use numbers::Point;
 
-// The point of a layer with the largest x; an empty layer has none.
-#[derive(Clone, Copy)]
-pub enum Reach {
-    Empty,
-    To(Point),
-}
-
 // Of both layers.
 #[derive(Clone, Copy)]
 pub struct Bounds {
-    pub subject: Reach,
-    pub clip: Reach,
+    pub subject: Option<Point>,
+    pub clip: Option<Point>,
 }
 
 // The one with the larger x.
-fn farther(reach: Reach, p: Point) -> Reach
+#[tactic(auto, unfolding(crate::specs::Bounds::farther))]
+fn farther(reach: Option<Point>, p: Point) -> Option<Point>
     ensures { reach_of result ≡ Spec.farther at_binary64 (reach_of reach) p }
 {
     match reach {
-        Reach::Empty => Reach::To(p),
-        Reach::To(q) => {
+        None => Some(p),
+        Some(q) => {
             if less_x(q, p) {
-                return Reach::To(p);
+                return Some(p);
             }
-            Reach::To(q)
+            Some(q)
         }
     }
 }
@@ -45,28 +39,26 @@ fn reach_with(
     points: &[[u64; 2]],
     marks: &[[u32; 12]],
     subject: bool,
-    reach: Reach,
+    reach: Option<Point>,
     r: u32,
-) -> Reach
+) -> Option<Point>
     ensures { reach_of result ≡ cond (beq (row_at (pool points.now marks.now) r).subject subject) (Spec.farther at_binary64 (reach_of reach) (row_at (pool points.now marks.now) r).point) (reach_of reach) }
 {
     let e = read_event(points, marks, r);
     if e.subject == subject {
-        let point = e.point;
-        return farther(reach, point);
+        return farther(reach, e.point);
     }
     reach
 }
 
 // Of one layer's loaded records.
-fn rightmost(points: &[[u64; 2]], marks: &[[u32; 12]], loaded: u32, subject: bool) -> Reach
+#[tactic(auto, unfolding(crate::specs::Bounds::rightmost))]
+fn rightmost(points: &[[u64; 2]], marks: &[[u32; 12]], loaded: u32, subject: bool) -> Option<Point>
     ensures { reach_of result ≡ Spec.rightmost at_binary64 (row_at (pool points.now marks.now)) subject loaded }
 {
-    let mut reach = Reach::Empty;
-    let mut r = 0;
-    while r < loaded {
+    let mut reach = None;
+    for r in 0..loaded {
         reach = reach_with(points, marks, subject, reach, r);
-        r += 1;
     }
     reach
 }
@@ -82,24 +74,24 @@ pub fn bounds_of(points: &[[u64; 2]], marks: &[[u32; 12]], loaded: u32) -> Bound
 }
 
 // An empty layer's largest x is below every number.
-fn is_right_of(reach: Reach, p: Point) -> bool
+#[tactic(auto, unfolding(crate::specs::Bounds::is_right_of))]
+fn is_right_of(reach: Option<Point>, p: Point) -> bool
     ensures { result ≡ is_right_of at_binary64 (reach_of reach) p }
 {
     match reach {
-        Reach::Empty => true,
-        Reach::To(q) => less_x(q, p),
+        None => true,
+        Some(q) => less_x(q, p),
     }
 }
 
 // No event from here on matters to the operation.
+#[tactic(auto, unfolding(crate::specs::Bounds::is_past))]
 pub fn is_past(bounds: Bounds, operation: Operation, p: Point) -> bool
     ensures { result ≡ is_past at_binary64 operation (reach_of bounds.subject) (reach_of bounds.clip) p }
 {
-    let subject = bounds.subject;
-    let clip = bounds.clip;
     match operation {
-        Operation::Intersection => is_right_of(subject, p) | is_right_of(clip, p),
-        Operation::Difference => is_right_of(subject, p),
+        Operation::Intersection => is_right_of(bounds.subject, p) | is_right_of(bounds.clip, p),
+        Operation::Difference => is_right_of(bounds.subject, p),
         Operation::Union => false,
         Operation::Xor => false,
     }

@@ -11,20 +11,18 @@ ghost use Rattle.sweep.specs.Turn.{Does, Worked};
 use crate::bounds::{Bounds, is_past};
 use crate::turn::{Turn, after_meeting, end};
 use class::Operation;
-use events::Link;
 use events::pool::read_used;
 use lists::{insert_at, remove_at};
-use neighbours::Met;
 use status::{below_at, member_at, slot_of};
 use sweep_events::meetings::{between, close_up};
 use sweep_events::slots::slot_below;
 
 // The one below the one just below a place.
-pub fn lowest_at(status: &[u32], n: usize, k: usize) -> Link
+pub fn lowest_at(status: &[u32], n: usize, k: usize) -> Option<u32>
     ensures { result ≡ below (take n status.now) (k - 1) }
 {
     if k == 0 {
-        return Link::None;
+        return None;
     }
     below_at(status, n, k - 1)
 }
@@ -74,8 +72,8 @@ fn leave_at(
     let last = close_up(points, marks, t.used, lower, upper, mode);
     let met = last.met;
     match met {
-        Met::Refused(_) => after_meeting(t, t.members, last),
-        Met::Code(_) => {
+        Err(_) => after_meeting(t, t.members, last),
+        Ok(_) => {
             remove_at(status, n, k);
             after_meeting(t, t.members - 1, last)
         }
@@ -119,8 +117,7 @@ pub fn work(
     ensures worked { Worked t result }
 {
     let f = read_used(points, marks, t.used, e);
-    let point = f.point;
-    if is_past(bounds, operation, point) {
+    if is_past(bounds, operation, f.point) {
         return end(t);
     }
     if f.left {

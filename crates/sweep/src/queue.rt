@@ -103,6 +103,7 @@ fn take_out(queue: &mut [u32], n: u32, o: u32) -> u32
 }
 
 // Number o is older than `from` and waits: no other number below `from` is a member.
+#[tactic(auto, unfolding(waiting::specs::Queue::is_older))]
 fn is_older(waits: &[bool], from: u32, o: u32) -> bool
     ensures { result ≡ Queue.is_older from (flagged waits.now) o }
 {
@@ -139,11 +140,9 @@ fn evict_all(
     ensures upper_bound { result ≤ length queue.new }
 {
     let mut last = n;
-    let mut r = from;
-    while r < used {
+    for r in from..used {
         let f = read_used(points, marks, used, r);
         last = evict(waits, from, queue, last, f.partner);
-        r += 1;
     }
     last
 }
@@ -187,10 +186,8 @@ fn admit_all(
     ensures upper_bound { result ≤ length queue.new }
 {
     let mut last = n;
-    let mut r = from;
-    while r < used {
+    for r in from..used {
         last = admit(points, marks, waits, from, used, queue, last, r);
-        r += 1;
     }
     last
 }

@@ -12,7 +12,6 @@ use crate::event::{lowest_at, work};
 use crate::queue::requeue;
 use crate::turn::{Turn, end, is_stopped, line_up, taking};
 use class::Operation;
-use events::Link;
 use status::below_at;
 use waiting::ties_with;
 
@@ -49,8 +48,8 @@ fn step(
 {
     let n = t.waiting as usize;
     match below_at(queue, n, n) {
-        Link::None => end(t),
-        Link::To(e) => {
+        None => end(t),
+        Some(e) => {
             let rival = ties_with(points, marks, t.used, e, lowest_at(queue, n, n));
             let u = take_event(waits, taken, t, e, rival);
             let v = work(points, marks, status, u, e, operation, mode, bounds);
@@ -80,16 +79,13 @@ pub fn run(
     ensures queues { Queues (pool points.new marks.new) waits.new queue.new result }
 {
     let mut now = t;
-    let mut k = 0;
-    while k < steps {
-        let stop = now.stop;
-        if is_stopped(stop) {
+    for _ in 0..steps {
+        if is_stopped(now.stop) {
             return now;
         }
         now = step(
             points, marks, waits, queue, status, taken, now, operation, mode, bounds,
         );
-        k += 1;
     }
     now
 }

@@ -4,7 +4,7 @@ ghost use Rattle.checks.specs.Checks.{max_events};
 ghost use Rattle.sweep.specs.State.{stop_by};
 ghost use Rattle.sweep.specs.Turn.{start_turn, ended_turn, taken_turn, met_turn, lined_turn, is_stopped};
 
-use neighbours::{Met, Neighbours};
+use neighbours::Neighbours;
 use refusals::Refusal;
 
 #[derive(Clone, Copy)]
@@ -29,11 +29,12 @@ pub struct Turn {
 }
 
 // Nothing is taken yet.
+#[tactic(auto, unfolding(crate::specs::Turn::start_turn))]
 pub fn start(used: u32) -> Turn
     ensures { result ≡ start_turn used }
 {
     Turn {
-        used: used,
+        used,
         members: 0,
         waiting: 0,
         count: 0,
@@ -43,80 +44,63 @@ pub fn start(used: u32) -> Turn
 }
 
 // The run has come to its end.
+#[tactic(auto, unfolding(crate::specs::Turn::ended_turn))]
 pub fn end(t: Turn) -> Turn
     ensures { result ≡ ended_turn t }
 {
     Turn {
-        used: t.used,
-        members: t.members,
-        waiting: t.waiting,
-        count: t.count,
-        tied: t.tied,
         stop: Stop::Ended,
+        ..t
     }
 }
 
 // An event is taken; whether another ties with it.
+#[tactic(auto, unfolding(crate::specs::Turn::taken_turn))]
 pub fn taking(t: Turn, rival: bool) -> Turn
     requires { t.count < max_events }
     ensures { result ≡ taken_turn t rival }
 {
-    let stop = t.stop;
     Turn {
-        used: t.used,
-        members: t.members,
-        waiting: t.waiting,
         count: t.count + 1,
         tied: t.tied | rival,
-        stop: stop,
+        ..t
     }
 }
 
 // With this many in the queue.
+#[tactic(auto, unfolding(crate::specs::Turn::lined_turn))]
 pub fn line_up(t: Turn, waiting: u32) -> Turn
     ensures { result ≡ lined_turn t waiting }
 {
-    let stop = t.stop;
-    Turn {
-        used: t.used,
-        members: t.members,
-        waiting: waiting,
-        count: t.count,
-        tied: t.tied,
-        stop: stop,
-    }
+    Turn { waiting, ..t }
 }
 
+#[tactic(auto, unfolding(crate::specs::Turn::is_stopped))]
 pub fn is_stopped(stop: Stop) -> bool
     ensures { result ≡ is_stopped stop }
 {
-    match stop {
-        Stop::Going => false,
-        Stop::Ended => true,
-        Stop::Refused(_) => true,
-    }
+    !matches!(stop, Stop::Going)
 }
 
-fn stop_by(met: Met) -> Stop
+#[tactic(auto, unfolding(crate::specs::State::stop_by))]
+fn stop_by(met: Result<u32, Refusal>) -> Stop
     ensures { result ≡ stop_by met }
 {
     match met {
-        Met::Code(_) => Stop::Going,
-        Met::Refused(refusal) => Stop::Refused(refusal),
+        Ok(_) => Stop::Going,
+        Err(refusal) => Stop::Refused(refusal),
     }
 }
 
 // After a meeting, with this many members.
+#[tactic(auto, unfolding(crate::specs::Turn::met_turn))]
 pub fn after_meeting(t: Turn, members: u32, last: Neighbours) -> Turn
     ensures { result ≡ met_turn t members last.used last.met }
 {
-    let met = last.met;
     Turn {
         used: last.used,
-        members: members,
-        waiting: t.waiting,
-        count: t.count,
-        tied: t.tied,
-        stop: stop_by(met),
+        members,
+        stop: stop_by(last.met),
+        ..t
     }
 }

@@ -1,9 +1,8 @@
 -- What an event asks, for each of the three adapters of `neighbours`: an invariant of one run, equal keys, a likeness with an invariant.
+use Rattle.std.proofs.Common.{Option, Some, None}
 use mathlib.Core.Path.{◌≡◌, refl}
 use mathlib.Core.Bool.{false, cond}
 use Prim.Native.Nat.{ℕ}
-use Rattle.events.specs.declared.Link.{Link}
-use Rattle.events.specs.declared.Link.TheVariants.{To}
 use Rattle.events.specs.Coordinates.{Coordinates, Crossing}
 use Rattle.events.specs.Event.{Event, key}
 use Rattle.events.specs.Store.{Store, look}
@@ -12,7 +11,7 @@ use Rattle.order.specs.Keys.{key_of, key_used}
 use Rattle.segments.specs.Segments.{compare_segments}
 use Rattle.segments.proofs.Crossings.{by-one-crossing}
 use Rattle.class.specs.declared.Operation.{Operation}
-use Rattle.class.specs.Class.{Lower, None as NoEdge, Edge, written, set_from_lower, fields}
+use Rattle.class.specs.Class.{written, set_from_lower, fields, Neighbour}
 use Rattle.neighbours.proofs.Likeness.{Likeness, StoresAlike, NumbersAlike}
 use Rattle.neighbours.proofs.Keyed.{Keyed, keyed-meetings}
 use Rattle.neighbours.proofs.Both.{both, stores, numbers, store-known, number-known, stores_both, meetings-both}
@@ -26,7 +25,7 @@ use Rattle.sweep_events.proofs.Walk.{LinksAlike, nowhere, leads, EventLaws}
 -- class reads more than keys
 abbrev pub ClassesAlike : {P S S' : Type 0} → Likeness P S P S' → Coordinates P → Store P S → Operation → Store P S' → Operation → Type 0
 ClassesAlike {P} {S} {S'} B C K op K' op' =
-    (n : ℕ) (s : S) (s' : S') (e e' : ℕ) (lower lower' : Link) → StoresAlike B n s s' → NumbersAlike B n e e' → LinksAlike B n lower lower'
+    (n : ℕ) (s : S) (s' : S') (e e' : ℕ) (lower lower' : Option ℕ) → StoresAlike B n s s' → NumbersAlike B n e e' → LinksAlike B n lower lower'
     → StoresAlike B n (classified C K op s n e lower) (classified C K' op' s' n e' lower')
 
 pub keyed-events : {P S S' : Type 0} {B : Likeness P S P S'} {C : Coordinates P} {K : Store P S} {K' : Store P S'} (k : Keyed B C K K') (crossing : Crossing P) (op op' : Operation) → ClassesAlike B C K op K' op'
@@ -42,18 +41,18 @@ keyed-events {C = C} k crossing op op' classes =
 -- ---- an invariant of one run
 
 module _ {P : Type 0} where
-  face-fields : (op : Operation) (e : Event P) (lower : Lower P) → Face (fields op e lower) e
+  face-fields : (op : Operation) (e : Event P) (lower : Option (Neighbour P)) → Face (fields op e lower) e
   unfolding fields set_from_lower written
-  face-fields op e NoEdge = record { point = refl; left = refl; subject = refl; ring = refl; partner = refl }
-  face-fields op e (Edge k) = record { point = refl; left = refl; subject = refl; ring = refl; partner = refl }
+  face-fields op e None = record { point = refl; left = refl; subject = refl; ring = refl; partner = refl }
+  face-fields op e (Some k) = record { point = refl; left = refl; subject = refl; ring = refl; partner = refl }
 
 module _ {P S : Type 0} {C : Coordinates P} {K : Store P S} {crossing : Crossing P} (I : Invariant P S) (k : Kept I C K crossing) where
-  links-same : {n : ℕ} {l l' : Link} → LinksAlike (diagonal I) n l l' → l' ≡ l
+  links-same : {n : ℕ} {l l' : Option ℕ} → LinksAlike (diagonal I) n l l' → l' ≡ l
   unfolding diagonal
   links-same nowhere = refl
-  links-same (leads h) = λ i. To (is h.alike i)
+  links-same (leads h) = λ i. Some (is h.alike i)
 
-  class-alike : (op : Operation) {n : ℕ} {s s' : S} {e e' : ℕ} {lower lower' : Link} → Same (I.OfStore n) s s' → Same (I.OfNumber n) e e' → lower' ≡ lower
+  class-alike : (op : Operation) {n : ℕ} {s s' : S} {e e' : ℕ} {lower lower' : Option ℕ} → Same (I.OfStore n) s s' → Same (I.OfNumber n) e e' → lower' ≡ lower
       → Same (I.OfStore n) (classified C K op s n e lower) (classified C K op s' n e' lower')
   unfolding classified
   class-alike op {n} {s} {s'} {e} {e'} {lower} (same h) (same at) q = rw q (same (k.put n s e _ h at (face-fields op (look K s n e) (lower_in C K s n lower))))
@@ -75,7 +74,7 @@ module _ {P S : Type 0} {C : Coordinates P} {K : Store P S} {crossing : Crossing
 
 -- ---- what is alike in two runs, and an invariant of the first
 
-pub links : {P S P' S' : Type 0} (B : Likeness P S P' S') (I : Invariant P S) {n : ℕ} {l l' : Link} → LinksAlike (both B I) n l l' → LinksAlike B n l l'
+pub links : {P S P' S' : Type 0} (B : Likeness P S P' S') (I : Invariant P S) {n : ℕ} {l l' : Option ℕ} → LinksAlike (both B I) n l l' → LinksAlike B n l l'
 links B I nowhere = nowhere
 links B I (leads h) = leads (numbers B I h)
 

@@ -1,5 +1,4 @@
 -- Laws of one event's work; which of two coinciding neighbours counts (`Counts`).
-pub mod Events
 pub mod Walk
 pub mod Adapters
 pub mod Passing

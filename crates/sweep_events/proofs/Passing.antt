@@ -1,13 +1,16 @@
 -- A member that the plain tests pass lies below: it starts no later than the new segment and ends behind its start, and its ends are lower than both of
 -- that one's.
-use mathlib.Core.Path.{◌≡◌, refl, sym, subst}
+use mathlib.Core.Path.{◌≡◌, refl, sym, ap, subst, ◌∙◌}
+use Rattle.std.specs.declared.cmp.Ordering.TheVariants.{Greater}
 use mathlib.Core.Bool.{Bool, true, false, not, cond, true≢false}
-use mathlib.Core.List.{List}
-use Prim.Native.Nat.{ℕ, zero, suc, ◌+◌, ◌-◌, ◌<◌, ◌≤◌}
+use mathlib.Core.List.{List, []}
+use Prim.Native.Nat.{ℕ, zero, suc, ◌+◌, ◌-◌, ◌*◌, ◌/◌, ◌<◌, ◌≤◌}
 use native.Mathlib.Omega.{arith}
 use borrow.Author.Tests.{ltb-true, ltb-false, lt-ltb}
 use lib.Dec.{eqb, ltb}
-use lib.ListN.{length, take, get_or}
+use lib.ListN.{length, take, drop, get_or, length-take}
+use Rattle.std.specs.Simd.{first_chunks}
+use Rattle.std.proofs.lemmas.List.{get_or-take, get_or-drop}
 use Rattle.numbers.specs.declared.Point.{Point}
 use Rattle.events.specs.Coordinates.{Coordinates, Crossing}
 use Rattle.events.specs.Binary64.{at_binary64, in_mode}
@@ -19,7 +22,6 @@ use Rattle.events.proofs.Runs.{Word}
 use Rattle.order.specs.Keys.{key_of, key_used}
 use Rattle.order.proofs.Laws.{OrderLaws}
 use Rattle.order.proofs.AtBinary64.{laws}
-use Rattle.segments.specs.declared.Ordering.TheVariants.{Greater}
 use Rattle.segments.specs.Segments.{compare_segments}
 use Rattle.segments.proofs.Places.{less-x, not-less-x, less-y, not-less-y, is-less-y}
 use Rattle.events.proofs.Parted.{Parts, parts}
@@ -94,6 +96,31 @@ one_more p used b status from i all this j h g = go (ltb j i) refl
 
 pub two-more : (p : Pool) (used : ℕ) (b : Bounds) (status : List ℕ) (from i : ℕ) → AllPassed p used b status from i → Passed p used b (get_or status i 0) → Passed p used b (get_or status (i + 1) 0) → AllPassed p used b status from (i + 2)
 two-more p used b status from i all this next j h g = one_more p used b status from (i + 1) (one_more p used b status from i all this) next j h (omega arith)
+
+-- the k-th of the pairs that a list is cut into
+in-pair : (n k : ℕ) (l : List ℕ) (j : ℕ) → j < 2 → k < n → get_or (get_or (first_chunks 2 n l) k []) j 0 ≡ get_or l (2 * k + j) 0
+in-pair zero k l j h g = absurd (omega (arith, g))
+in-pair (suc n) zero l j h g = get_or-take 2 l j 0 h ∙ ap (λ i. get_or l i 0) (omega arith)
+in-pair (suc n) (suc k) l j h g =
+    in-pair n k (drop 2 l) j h (omega (arith, g)) ∙ get_or-drop 2 l (2 * k + j) 0 ∙ ap (λ i. get_or l i 0) (omega arith)
+
+module _ (p : Pool) (used : ℕ) (b : Bounds) (status : List ℕ) (from count : ℕ) where
+  abbrev asked : List ℕ
+  asked = take count (drop from status)
+
+  pub next-pair : (k : ℕ) (pairs : List (List ℕ)) → pairs ≡ first_chunks 2 (length asked / 2) asked → k < length asked / 2 → AllPassed p used b status from (from + 2 * k)
+      → Passed p used b (get_or (get_or pairs k []) 0 0) → Passed p used b (get_or (get_or pairs k []) 1 0) → AllPassed p used b status from (from + 2 * (k + 1))
+  next-pair k pairs is h all this next =
+      let on : from + 2 * k + 2 ≡ from + 2 * (k + 1) = omega arith in
+      let first : from + 2 * k + 0 ≡ from + 2 * k = omega arith in
+      subst (AllPassed p used b status from) on
+      (two-more p used b status from (from + 2 * k) all (subst (λ i. Passed p used b (get_or status i 0)) first (subst (Passed p used b) (stands 0 (omega arith)) this))
+      (subst (Passed p used b) (stands 1 (omega arith)) next))
+    where
+      stands : (j : ℕ) → j < 2 → get_or (get_or pairs k []) j 0 ≡ get_or status (from + 2 * k + j) 0
+      stands j g =
+          let here : 2 * k + j < count = omega (arith, h, g, length-take count (drop from status)) in
+          rw is (in-pair (length asked / 2) k asked j g h ∙ get_or-take count (drop from status) (2 * k + j) 0 here ∙ get_or-drop from status (2 * k + j) 0 ∙ ap (λ i. get_or status i 0) (omega arith))
 
 -- ---- a member that is passed is not the place
 alike : (t : Bool) → cond t false false ≡ false

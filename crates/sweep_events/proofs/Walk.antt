@@ -1,33 +1,31 @@
 -- Two events side by side: where classes are alike and the meetings of neighbours are (`neighbours`), all that an event does to the records is.
+use Rattle.std.proofs.Common.{None, Ok, Option, Some}
 use mathlib.Core.Path.{◌≡◌, refl}
 use Prim.Native.Nat.{ℕ, ◌≤◌}
 use native.Mathlib.Omega.{arith}
 use lib.Dec.{eqb}
-use Rattle.events.specs.declared.Link.{Link}
-use Rattle.events.specs.declared.Link.TheVariants.{None, To}
 use Rattle.events.specs.Coordinates.{Coordinates, Crossing}
 use Rattle.events.specs.Store.{Store}
 use Rattle.class.specs.declared.Operation.{Operation}
-use Rattle.neighbours.specs.declared.Met.TheVariants.{Code}
 use Rattle.neighbours.specs.Neighbours.{Meeting, meeting}
 use Rattle.neighbours.proofs.Likeness.{Likeness, StoresAlike, NumbersAlike, MeetingsAlike, met, broken, off}
 use Rattle.neighbours.proofs.Walk.{MeetingLaws, meetings-cond, numbers-later, alike-meet}
 use Rattle.sweep_events.specs.Event.{is_two, afterwards, classified, reclassed, with_upper, with_lower, between, close_up, is_below}
 
 -- links to records at hand
-pub data LinksAlike {P S P' S' : Type 0} (B : Likeness P S P' S') (n : ℕ) : Link → Link → Type 0 where
+pub data LinksAlike {P S P' S' : Type 0} (B : Likeness P S P' S') (n : ℕ) : Option ℕ → Option ℕ → Type 0 where
   nowhere : LinksAlike B n None None
-  leads : {r r' : ℕ} → NumbersAlike B n r r' → LinksAlike B n (To r) (To r')
+  leads : {r r' : ℕ} → NumbersAlike B n r r' → LinksAlike B n (Some r) (Some r')
 
 -- what an event asks beside meetings: class, and the place in the status
 pub record EventLaws {P S P' S' : Type 0} (B : Likeness P S P' S') (op : Operation) (C : Coordinates P) (K : Store P S) (crossing : Crossing P) (op' : Operation) (C' : Coordinates P') (K' : Store P' S') (crossing' : Crossing P') : Type 0 where
   pub meetings : MeetingLaws B C K crossing C' K' crossing'
-  pub classes : {n : ℕ} {s : S} {s' : S'} {e e' : ℕ} {lower lower' : Link} → StoresAlike B n s s' → NumbersAlike B n e e' → LinksAlike B n lower lower'
+  pub classes : {n : ℕ} {s : S} {s' : S'} {e e' : ℕ} {lower lower' : Option ℕ} → StoresAlike B n s s' → NumbersAlike B n e e' → LinksAlike B n lower lower'
       → StoresAlike B n (classified C K op s n e lower) (classified C' K' op' s' n e' lower')
   pub belows : {n : ℕ} {s : S} {s' : S'} {e x e' x' : ℕ} → StoresAlike B n s s' → NumbersAlike B n e e' → NumbersAlike B n x x' → is_below C' K' crossing' s' n e' x' ≡ is_below C K crossing s n e x
 
 module _ {P S P' S' : Type 0} {B : Likeness P S P' S'} where
-  pub links-later : {m n : ℕ} {l l' : Link} → m ≤ n → LinksAlike B m l l' → LinksAlike B n l l'
+  pub links-later : {m n : ℕ} {l l' : Option ℕ} → m ≤ n → LinksAlike B m l l' → LinksAlike B n l l'
   links-later h nowhere = nowhere
   links-later h (leads k) = leads (numbers-later h k)
 
@@ -45,7 +43,7 @@ module _ {P S P' S' : Type 0} {B : Likeness P S P' S'} where
 
 module _ {P S P' S' : Type 0} {B : Likeness P S P' S'} {op : Operation} {C : Coordinates P} {K : Store P S} {crossing : Crossing P} {op' : Operation} {C' : Coordinates P'} {K' : Store P' S'} {crossing' : Crossing P'}
     (E : EventLaws B op C K crossing op' C' K' crossing') where
-  alike-reclassed : {n : ℕ} {m : Meeting S} {m' : Meeting S'} {a b a' b' : ℕ} {lower lower' : Link} → MeetingsAlike B n m m' → NumbersAlike B n a a' → LinksAlike B n lower lower' → NumbersAlike B n b b'
+  alike-reclassed : {n : ℕ} {m : Meeting S} {m' : Meeting S'} {a b a' b' : ℕ} {lower lower' : Option ℕ} → MeetingsAlike B n m m' → NumbersAlike B n a a' → LinksAlike B n lower lower' → NumbersAlike B n b b'
       → MeetingsAlike B n (reclassed C K op m a lower b) (reclassed C' K' op' m' a' lower' b')
   unfolding reclassed is_two
   alike-reclassed (met c l w) at_a low at_b =
@@ -55,29 +53,29 @@ module _ {P S P' S' : Type 0} {B : Likeness P S P' S'} {op : Operation} {C : Coo
   alike-reclassed (off o) at_a low at_b = off o
 
   module _ {n : ℕ} {s : S} {s' : S'} (w : StoresAlike B n s s') where
-    stay : MeetingsAlike B n (meeting s n (Code 0)) (meeting s' n (Code 0))
+    stay : MeetingsAlike B n (meeting s n (Ok 0)) (meeting s' n (Ok 0))
     stay = met {n = n} 0 (omega arith) w
 
-    alike-upper : {e e' : ℕ} {lower lower' upper upper' : Link} → NumbersAlike B n e e' → LinksAlike B n lower lower' → LinksAlike B n upper upper'
+    alike-upper : {e e' : ℕ} {lower lower' upper upper' : Option ℕ} → NumbersAlike B n e e' → LinksAlike B n lower lower' → LinksAlike B n upper upper'
         → MeetingsAlike B n (with_upper C K op crossing s n e lower upper) (with_upper C' K' op' crossing' s' n e' lower' upper')
     unfolding with_upper
     alike-upper at low nowhere = stay
     alike-upper at low (leads k) = alike-reclassed (alike-meet E.meetings w at k) at low k
 
-    alike-lower : {e e' : ℕ} {lower lower' lowest lowest' : Link} → NumbersAlike B n e e' → LinksAlike B n lower lower' → LinksAlike B n lowest lowest'
+    alike-lower : {e e' : ℕ} {lower lower' lowest lowest' : Option ℕ} → NumbersAlike B n e e' → LinksAlike B n lower lower' → LinksAlike B n lowest lowest'
         → MeetingsAlike B n (with_lower C K op crossing s n e lower lowest) (with_lower C' K' op' crossing' s' n e' lower' lowest')
     unfolding with_lower
     alike-lower at nowhere low = stay
     alike-lower at (leads k) low = alike-reclassed (alike-meet E.meetings w k at) k low at
 
-    pub alike-close_up : {lower lower' upper upper' : Link} → LinksAlike B n lower lower' → LinksAlike B n upper upper'
+    pub alike-close_up : {lower lower' upper upper' : Option ℕ} → LinksAlike B n lower lower' → LinksAlike B n upper upper'
         → MeetingsAlike B n (close_up C K crossing s n lower upper) (close_up C' K' crossing' s' n lower' upper')
     unfolding close_up
     alike-close_up nowhere up = stay
     alike-close_up (leads k) nowhere = stay
     alike-close_up (leads k) (leads h) = alike-meet E.meetings w k h
 
-  pub alike-between : {n : ℕ} {s : S} {s' : S'} {e e' : ℕ} {lower lower' upper upper' lowest lowest' : Link} → StoresAlike B n s s' → NumbersAlike B n e e'
+  pub alike-between : {n : ℕ} {s : S} {s' : S'} {e e' : ℕ} {lower lower' upper upper' lowest lowest' : Option ℕ} → StoresAlike B n s s' → NumbersAlike B n e e'
       → LinksAlike B n lower lower' → LinksAlike B n upper upper' → LinksAlike B n lowest lowest'
       → MeetingsAlike B n (between C K op crossing s n e lower upper lowest) (between C' K' op' crossing' s' n e' lower' upper' lowest')
   unfolding between

@@ -1,6 +1,7 @@
 -- What the search of the status passes by plain comparisons: a member that lies clear below. A reader of the search's promise need not read this: what
 -- is passed compares greater.
 use Rattle.std.specs.Prelude.{◌≡◌, Bool, true, false, cond, List, [], ℕ, ◌^◌, ◌<◌, ◌≤◌, length, get_or}
+use Rattle.std.specs.declared.cmp.Ordering.TheVariants.{Greater}
 use Rattle.numbers.specs.declared.Point.{Point}
 use Rattle.events.specs.Coordinates.{Coordinates}
 use Rattle.events.specs.Binary64.{at_binary64, in_mode}
@@ -8,7 +9,6 @@ use Rattle.events.specs.Event.{Key}
 use Rattle.events.specs.Pool.{Pool, stored}
 use Rattle.events.specs.Runs.{in_run}
 use Rattle.order.specs.Keys.{key_used}
-use Rattle.segments.specs.declared.Ordering.TheVariants.{Greater}
 use Rattle.segments.specs.Segments.{compare_segments}
 use Rattle.sweep_events.specs.declared.clear.Bounds.{Bounds}
 

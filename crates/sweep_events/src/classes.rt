@@ -6,13 +6,14 @@ ghost use Rattle.class.specs.Class.{shown_neighbour, shown_lower};
 ghost use Rattle.neighbours.specs.Neighbours.{meeting};
 ghost use Rattle.sweep_events.specs.Event.{is_two, neighbour_in, lower_in, classified, reclassed};
 
-use class::{Lower, Neighbour, Operation, compute_fields};
-use events::Link;
+use class::{Neighbour, Operation, compute_fields};
 use events::points::same_x;
 use events::pool::{read_used, store_event};
-use neighbours::{Met, Neighbours};
+use neighbours::Neighbours;
+use refusals::Refusal;
 
 // Vertical: the partner's x is its own, by value.
+#[tactic(auto, unfolding(crate::specs::Event::neighbour_in))]
 fn neighbour_used(points: &[[u64; 2]], marks: &[[u32; 12]], used: u32, number: u32) -> Neighbour
     ensures { shown_neighbour result ≡ neighbour_in at_binary64 stored (pool points.now marks.now) used number }
 {
@@ -25,22 +26,29 @@ fn neighbour_used(points: &[[u64; 2]], marks: &[[u32; 12]], used: u32, number: u
     }
 }
 
-fn lower_used(points: &[[u64; 2]], marks: &[[u32; 12]], used: u32, lower: Link) -> Lower
+#[tactic(auto, unfolding(crate::specs::Event::lower_in))]
+fn lower_used(
+    points: &[[u64; 2]],
+    marks: &[[u32; 12]],
+    used: u32,
+    lower: Option<u32>,
+) -> Option<Neighbour>
     ensures { shown_lower result ≡ lower_in at_binary64 stored (pool points.now marks.now) used lower }
 {
     match lower {
-        Link::None => Lower::None,
-        Link::To(n) => Lower::Edge(neighbour_used(points, marks, used, n)),
+        None => None,
+        Some(n) => Some(neighbour_used(points, marks, used, n)),
     }
 }
 
 // Record e anew from its lower neighbour.
+#[tactic(auto, unfolding(crate::specs::Event::classified, events::specs::Pool::stored))]
 pub fn classify(
     points: &mut [[u64; 2]],
     marks: &mut [[u32; 12]],
     used: u32,
     e: u32,
-    lower: Link,
+    lower: Option<u32>,
     operation: Operation,
 )
     ensures { pool points.new marks.new ≡ classified at_binary64 stored operation (pool points.old marks.old) used e lower }
@@ -56,22 +64,21 @@ pub fn classify(
 }
 
 // Code 2 tells that edge types have changed.
-fn is_two(met: Met) -> bool
+#[tactic(auto, unfolding(crate::specs::Event::is_two))]
+fn is_two(met: Result<u32, Refusal>) -> bool
     ensures { result ≡ is_two met }
 {
-    match met {
-        Met::Code(c) => c == 2,
-        Met::Refused(_) => false,
-    }
+    matches!(met, Ok(2))
 }
 
 // After code 2 both are classed again from the bottom up: a from its lower neighbour, then b from a.
+#[tactic(auto, unfolding(crate::specs::Event::reclassed))]
 pub fn reclass(
     points: &mut [[u64; 2]],
     marks: &mut [[u32; 12]],
     last: Neighbours,
     a: u32,
-    lower: Link,
+    lower: Option<u32>,
     b: u32,
     operation: Operation,
 ) -> Neighbours
@@ -80,7 +87,7 @@ pub fn reclass(
     let met = last.met;
     if is_two(met) {
         classify(points, marks, last.used, a, lower, operation);
-        classify(points, marks, last.used, b, Link::To(a), operation);
+        classify(points, marks, last.used, b, Some(a), operation);
         return last;
     }
     last

@@ -10,27 +10,18 @@ use numbers::Point;
 use order::Key;
 
 // The lower of a segment's two ends.
+#[tactic(auto, unfolding(crate::specs::Clear::lower_of))]
 fn lower_of(p: Point, q: Point) -> Point
     ensures { result ≡ lower_of at_binary64 p q }
 {
     if less_y(p, q) { p } else { q }
 }
 
-fn lesser(a: usize, b: usize) -> usize
-    ensures { (result ≤ a) × (result ≤ b) }
-{
-    if a < b { a } else { b }
-}
-
 // How many records can be read with no further question.
 pub fn ready_of(points: &[[u64; 2]], marks: &[[u32; 12]], used: u32) -> usize
     ensures { Ready (pool points.now marks.now) used result }
 {
-    let all = used as usize;
-    if points.len() < marks.len() {
-        return lesser(all, points.len());
-    }
-    lesser(all, marks.len())
+    (used as usize).min(points.len()).min(marks.len())
 }
 
 // What a member's words are held to, once for all members: both y, its start's x, its end's x.
@@ -67,13 +58,6 @@ fn are_clear(bounds: Bounds, a: Point, b: Point, c: Point, d: Point) -> bool
     is_clear(bounds, a, b) & is_clear(bounds, c, d)
 }
 
-// A record's number as a place in the arrays.
-fn place_of(number: u32) -> usize
-    ensures { result ≡ number }
-{
-    number as usize
-}
-
 fn point_at(points: &[[u64; 2]], at: usize) -> Point
     requires { at < length points.now }
     ensures { result ≡ point_at points.now at }
@@ -86,8 +70,7 @@ fn mate_at(marks: &[[u32; 12]], at: usize) -> usize
     requires { at < length marks.now }
     ensures { result ≡ mate_at marks.now at }
 {
-    let m = marks[at];
-    place_of(m[3])
+    marks[at][3] as usize
 }
 
 // Member x, of which the two points are read and no more.
@@ -127,21 +110,17 @@ fn both_lie_clear(
 {
     let i = x as usize;
     let j = y as usize;
-    if i < ready {
-        if j < ready {
-            let m = mate_at(marks, i);
-            let n = mate_at(marks, j);
-            if m < ready {
-                if n < ready {
-                    return are_clear(
-                        bounds,
-                        point_at(points, i),
-                        point_at(points, m),
-                        point_at(points, j),
-                        point_at(points, n),
-                    );
-                }
-            }
+    if i < ready && j < ready {
+        let m = mate_at(marks, i);
+        let n = mate_at(marks, j);
+        if m < ready && n < ready {
+            return are_clear(
+                bounds,
+                point_at(points, i),
+                point_at(points, m),
+                point_at(points, j),
+                point_at(points, n),
+            );
         }
     }
     false
@@ -163,18 +142,13 @@ fn after_pairs(
     ensures lower_bound { (from ≤ result) × (result ≤ end) }
     ensures all_passed { AllPassed (pool points.now marks.now) used bounds status.now from result }
 {
-    if end == 0 {
-        return from;
-    }
-    let last = end - 1;
-    let mut i = from;
-    while i < last {
-        if !both_lie_clear(points, marks, used, ready, bounds, status[i], status[i + 1]) {
-            return i;
+    let (pairs, rest) = status[from..end].as_chunks::<2>();
+    for (k, pair) in pairs.iter().enumerate() {
+        if !both_lie_clear(points, marks, used, ready, bounds, pair[0], pair[1]) {
+            return from + 2 * k;
         }
-        i += 2;
     }
-    i
+    end - rest.len()
 }
 
 // The first place from here on whose member may not lie clear; the end where there is none.
@@ -193,12 +167,11 @@ pub fn after_clear(
     ensures lower_bound { (from ≤ result) × (result ≤ end) }
     ensures all_passed { AllPassed (pool points.now marks.now) used bounds status.now from result }
 {
-    let mut i = after_pairs(points, marks, used, ready, bounds, status, end, from);
-    while i < end {
+    let start = after_pairs(points, marks, used, ready, bounds, status, end, from);
+    for i in start..end {
         if !lies_clear(points, marks, used, ready, bounds, status[i]) {
             return i;
         }
-        i += 1;
     }
-    i
+    end
 }

@@ -1,43 +1,42 @@
 // New neighbours in the status meet.
-ghost use Rattle.std.specs.Prelude.{◌≡◌};
+ghost use Rattle.std.specs.Prelude.{◌≡◌, Ok};
 ghost use Rattle.events.specs.Binary64.{at_binary64, in_mode};
 ghost use Rattle.events.specs.Pool.{pool, stored};
-ghost use Rattle.neighbours.specs.declared.Met.TheVariants.{Code};
 ghost use Rattle.neighbours.specs.Neighbours.{meeting};
 ghost use Rattle.sweep_events.specs.Event.{with_upper, with_lower};
 ghost use Rattle.sweep_events.specs.Event as Spec;
 
 use crate::classes::{classify, reclass};
 use class::Operation;
-use events::Link;
-use neighbours::{Met, Neighbours, possible_intersection};
+use neighbours::{Neighbours, possible_intersection};
 
 // There is no neighbour to meet.
 fn alone(used: u32) -> Neighbours
-    ensures { (result.used ≡ used) × (result.met ≡ Code 0) }
+    ensures { (result.used ≡ used) × (result.met ≡ Ok 0) }
 {
     Neighbours {
         used: used,
-        met: Met::Code(0),
+        met: Ok(0),
     }
 }
 
 // Left record e and its neighbour above.
+#[tactic(auto, unfolding(crate::specs::Event::with_upper))]
 fn with_upper(
     points: &mut [[u64; 2]],
     marks: &mut [[u32; 12]],
     used: u32,
     e: u32,
-    lower: Link,
-    upper: Link,
+    lower: Option<u32>,
+    upper: Option<u32>,
     operation: Operation,
     mode: u32,
 ) -> Neighbours
     ensures { meeting (pool points.new marks.new) result.used result.met ≡ with_upper at_binary64 stored operation (in_mode mode) (pool points.old marks.old) used e lower upper }
 {
     match upper {
-        Link::None => alone(used),
-        Link::To(n) => {
+        None => alone(used),
+        Some(n) => {
             let m = possible_intersection(points, marks, used, e, n, mode);
             reclass(points, marks, m, e, lower, n, operation)
         }
@@ -45,21 +44,22 @@ fn with_upper(
 }
 
 // Left record e and its neighbour below, whose own lower neighbour is `lowest`.
+#[tactic(auto, unfolding(crate::specs::Event::with_lower))]
 fn with_lower(
     points: &mut [[u64; 2]],
     marks: &mut [[u32; 12]],
     used: u32,
     e: u32,
-    lower: Link,
-    lowest: Link,
+    lower: Option<u32>,
+    lowest: Option<u32>,
     operation: Operation,
     mode: u32,
 ) -> Neighbours
     ensures { meeting (pool points.new marks.new) result.used result.met ≡ with_lower at_binary64 stored operation (in_mode mode) (pool points.old marks.old) used e lower lowest }
 {
     match lower {
-        Link::None => alone(used),
-        Link::To(p) => {
+        None => alone(used),
+        Some(p) => {
             let m = possible_intersection(points, marks, used, p, e, mode);
             reclass(points, marks, m, p, lowest, e, operation)
         }
@@ -67,14 +67,15 @@ fn with_lower(
 }
 
 // Left record e enters between its neighbours.
+#[tactic(auto, unfolding(crate::specs::Event::between, crate::specs::Event::afterwards))]
 pub fn between(
     points: &mut [[u64; 2]],
     marks: &mut [[u32; 12]],
     used: u32,
     e: u32,
-    lower: Link,
-    upper: Link,
-    lowest: Link,
+    lower: Option<u32>,
+    upper: Option<u32>,
+    lowest: Option<u32>,
     operation: Operation,
     mode: u32,
 ) -> Neighbours
@@ -84,27 +85,28 @@ pub fn between(
     let m = with_upper(points, marks, used, e, lower, upper, operation, mode);
     let met = m.met;
     match met {
-        Met::Code(_) => with_lower(points, marks, m.used, e, lower, lowest, operation, mode),
-        Met::Refused(_) => m,
+        Ok(_) => with_lower(points, marks, m.used, e, lower, lowest, operation, mode),
+        Err(_) => m,
     }
 }
 
 // The two neighbours of a segment that leaves.
+#[tactic(auto, unfolding(crate::specs::Event::close_up))]
 pub fn close_up(
     points: &mut [[u64; 2]],
     marks: &mut [[u32; 12]],
     used: u32,
-    lower: Link,
-    upper: Link,
+    lower: Option<u32>,
+    upper: Option<u32>,
     mode: u32,
 ) -> Neighbours
     ensures { meeting (pool points.new marks.new) result.used result.met ≡ Spec.close_up at_binary64 stored (in_mode mode) (pool points.old marks.old) used lower upper }
 {
     match lower {
-        Link::None => alone(used),
-        Link::To(p) => match upper {
-            Link::None => alone(used),
-            Link::To(n) => possible_intersection(points, marks, used, p, n, mode),
+        None => alone(used),
+        Some(p) => match upper {
+            None => alone(used),
+            Some(n) => possible_intersection(points, marks, used, p, n, mode),
         },
     }
 }

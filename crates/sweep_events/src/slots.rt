@@ -9,17 +9,15 @@ ghost use Rattle.sweep_events.specs.Event.{is_less, is_below};
 
 use crate::clear::{after_clear, bounds_of, ready_of};
 use order::{Key, key_used};
-use segments::{Ordering, compare_segments};
+use segments::compare_segments;
 use status::count;
+use std::cmp::Ordering;
 
+#[tactic(auto, unfolding(crate::specs::Event::is_less))]
 fn is_less(ordering: Ordering) -> bool
     ensures { result ≡ is_less ordering }
 {
-    match ordering {
-        Ordering::Less => true,
-        Ordering::Equal => false,
-        Ordering::Greater => false,
-    }
+    ordering.is_lt()
 }
 
 // Left record e, whose key this is, compares less than member x.

@@ -1,5 +1,7 @@
 -- A renaming of the records, and the two stores that it relates, side by side: every test is of points, flags and layers, or whether two numbers are one,
 -- and the two new records of a division take the same numbers in both. What a turn asks of two runs (`sweep`) is shown here law by law.
+use Rattle.std.proofs.Common.{Some, None, Option}
+use Rattle.refusals.specs.declared.Reason.TheVariants as Reason
 use mathlib.Core.Path.{◌≡◌, refl, sym, ap, ap₂, ◌∙◌, subst}
 use mathlib.Core.Bool.{Bool, true, false, not, cond, ◌||◌}
 use Prim.Native.Nat.{ℕ, ◌+◌, ◌<◌, min}
@@ -7,8 +9,6 @@ use native.Mathlib.Omega.{arith}
 use lib.Dec.{eqb, leb}
 use Rattle.events.specs.declared.EdgeType.{EdgeType}
 use Rattle.events.specs.declared.EdgeType.TheVariants.{NonContributing}
-use Rattle.events.specs.declared.Link.{Link}
-use Rattle.events.specs.declared.Link.TheVariants.{None, To}
 use Rattle.events.specs.Coordinates.{Coordinates, Crossing}
 use Rattle.events.specs.Event.{Event, key}
 use Rattle.events.specs.Renaming.{rename_link, rename}
@@ -16,7 +16,7 @@ use Rattle.events.specs.Store.{Store, look}
 use Rattle.events.proofs.Stored.{Stored}
 use Rattle.order.specs.Keys.{key_used}
 use Rattle.class.specs.declared.Operation.{Operation}
-use Rattle.class.specs.Class.{Edge, fields}
+use Rattle.class.specs.Class.{fields}
 use Rattle.division.specs.Division.{moves, moved, misses, new_end, linked, keeps, numbers, full, parted, refused, done, divide_at, divide}
 use Rattle.division.proofs.Cases.{room}
 use Rattle.neighbours.specs.Step.{stop_of, cut}
@@ -81,8 +81,8 @@ module _ {P S : Type 0} (C : Coordinates P) {K : Store P S} (st : Stored K) {n :
         keep = keeps C e f c
 
         go : (off short : Bool) → full K s used ≡ short
-            → StepsAlike B used (used + 2) (step_of (cond off (refused s used 7 i) (cond short (refused s used 6 i) (done C K s used i e f c move))))
-            (step_of (cond off (refused s' used 7 (ρ.to i)) (cond (full K s' used) (refused s' used 6 (ρ.to i)) (done C K s' used (ρ.to i) (rename ρ.to e) (rename ρ.to f) c move))))
+            → StepsAlike B used (used + 2) (step_of (cond off (refused s used Reason.Cut i) (cond short (refused s used Reason.Full i) (done C K s used i e f c move))))
+            (step_of (cond off (refused s' used Reason.Cut (ρ.to i)) (cond (full K s' used) (refused s' used Reason.Full (ρ.to i)) (done C K s' used (ρ.to i) (rename ρ.to e) (rename ρ.to f) c move))))
         go true short p = halted {n = used} (omega arith) (record { alike = t }) renamed
         go false true p = rw (same-room, p) (halted {n = used} (omega arith) (record { alike = t }) renamed)
         go false false p =
@@ -119,12 +119,12 @@ module _ {P S : Type 0} (C : Coordinates P) {K : Store P S} (st : Stored K) {n :
         let vertical = ap₂ C.same_x (point-to t k) (right_point-to t k) in
         λ i. record { number = ρ.to k; event = t.looks k i; vertical = vertical i }
 
-    lower-to : (l : Link) → lower_in C K s' used (rename_link ρ.to l) ≡ rename_lower ρ.to (lower_in C K s used l)
+    lower-to : (l : Option ℕ) → lower_in C K s' used (rename_link ρ.to l) ≡ rename_lower ρ.to (lower_in C K s used l)
     unfolding lower_in rename_link rename_lower
     lower-to None = refl
-    lower-to (To k) = ap Edge (neighbour-to k)
+    lower-to (Some k) = ap Some (neighbour-to k)
 
-    twin-classified : (op : Operation) (e : ℕ) (lower : Link) → Twin K ρ (classified C K op s used e lower) (classified C K op s' used (ρ.to e) (rename_link ρ.to lower)) used
+    twin-classified : (op : Operation) (e : ℕ) (lower : Option ℕ) → Twin K ρ (classified C K op s used e lower) (classified C K op s' used (ρ.to e) (rename_link ρ.to lower)) used
     unfolding classified
     twin-classified op e lower =
         twin-store t st e (fields op (look K s used e) (lower_in C K s used lower)) _
@@ -137,15 +137,15 @@ module _ {P S : Type 0} (C : Coordinates P) {K : Store P S} (st : Stored K) {n :
   cut-alike : {s s' : S} {m i i' : ℕ} {p p' : P} → Twin K ρ s s' m → Renamed ρ.to i i' → Any p p' → StepsAlike B m (m + 2) (cut C K s m i p) (cut C K s' m i' p')
   cut-alike t renamed (same _) = twin-cut t _ _
 
-  link-to : {m : ℕ} {l l' : Link} → LinksAlike B m l l' → l' ≡ rename_link ρ.to l
+  link-to : {m : ℕ} {l l' : Option ℕ} → LinksAlike B m l l' → l' ≡ rename_link ρ.to l
   unfolding renames rename_link
   link-to nowhere = refl
-  link-to (leads h) = ap To (to_is h.alike)
+  link-to (leads h) = ap Some (to_is h.alike)
 
   mate-alike : {s s' : S} {m r r' : ℕ} → Twin K ρ s s' m → Renamed ρ.to r r' → Renamed ρ.to (look K s m r).partner (look K s' m r').partner
   mate-alike {r = r} t renamed = subst (Renamed ρ.to _) (sym (mate-to t r)) renamed
 
-  told : {a a' : ℕ} → Renamed ρ.to a a' → Renamed (rename_refusal ρ.to) (record { number = 7; place = a }) (record { number = 7; place = a' })
+  told : {a a' : ℕ} → Renamed ρ.to a a' → Renamed (rename_refusal ρ.to) (record { reason = Reason.Cut; place = a }) (record { reason = Reason.Cut; place = a' })
   unfolding rename_refusal
   told renamed = renamed
 

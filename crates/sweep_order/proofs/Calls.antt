@@ -1,4 +1,5 @@
 -- What two calls of the sweep leave in the lent arrays, from what their runs leave.
+use Rattle.std.proofs.Common.{Ok}
 use mathlib.Core.Path.{◌≡◌, refl, sym, ap, ◌∙◌, subst}
 use mathlib.Core.List.{List, []}
 use Prim.Native.Nat.{ℕ, suc, ◌-◌, ◌/◌}
@@ -10,7 +11,6 @@ use Rattle.events.proofs.Stored.{pool-stored}
 use Rattle.events.proofs.Looks.{pool-blanks}
 use Rattle.events.proofs.Lent.{points-away, marks-away, points-away-enter, marks-away-enter}
 use Rattle.class.specs.declared.Operation.{Operation}
-use Rattle.checks.specs.declared.Check.TheVariants.{Passed}
 use Rattle.division.proofs.AtBinary64.{move-laws}
 use Rattle.sweep.specs.declared.turn.Stop.{Stop}
 use Rattle.sweep.specs.declared.turn.Stop.TheVariants.{Going, Ended, Refused}
@@ -59,11 +59,11 @@ module _ (ρ : ℕ → ℕ) (n : ℕ) (s s' : State Pool) (b : SameBut stored ρ
 -- ---- the calls, where the checks pass
 
 module _ (op : Operation) (mode n : ℕ) where
-  pub called : (p : Pool) (lent : List ℕ) → accept p n lent ≡ Passed → subdivide_pool op mode p n lent ≡ after_run (subdivide at_binary64 stored (in_mode mode) op p n) n lent
+  pub called : (p : Pool) (lent : List ℕ) → accept p n lent ≡ Ok tt → subdivide_pool op mode p n lent ≡ after_run (subdivide at_binary64 stored (in_mode mode) op p n) n lent
   unfolding subdivide_pool after_checks
   called p lent h = ap (λ c. after_checks c op mode p n lent) h
 
-  pub same-calls : (ρ : ℕ → ℕ) (p p' : Pool) (lent lent' : List ℕ) → accept p n lent ≡ Passed → accept p' n lent' ≡ Passed → Good at_binary64 stored p n → Good at_binary64 stored p' n
+  pub same-calls : (ρ : ℕ → ℕ) (p p' : Pool) (lent lent' : List ℕ) → accept p n lent ≡ Ok tt → accept p' n lent' ≡ Ok tt → Good at_binary64 stored p n → Good at_binary64 stored p' n
       → SameBut stored ρ (subdivide at_binary64 stored (in_mode mode) op p n) (subdivide at_binary64 stored (in_mode mode) op p' n) → SameAfter ρ p lent (subdivide_pool op mode p n lent) p' lent' (subdivide_pool op mode p' n lent')
   same-calls ρ p p' lent lent' h h' g g' b =
       let x = same_after ρ n _ _ b p p' lent lent' (rest-as-lent op mode p n g) (rest-as-lent op mode p' n g') in

@@ -1,4 +1,6 @@
 -- Small runs that compute, at binary64: a tie told, that the theorem needs it untold, and that its hypotheses can be met.
+use Rattle.std.proofs.Common.{Err, Ok}
+use Rattle.refusals.specs.declared.Reason.TheVariants as Reason
 use mathlib.Core.Path.{◌≡◌, refl}
 use mathlib.Core.Bool.{Bool, true, false}
 use mathlib.Core.List.{[], ◌∷◌, Permᴰ}
@@ -11,7 +13,6 @@ use Rattle.events.specs.Binary64.{at_binary64, in_mode}
 use Rattle.events.specs.Pool.{Pool, pool, stored, row_at}
 use Rattle.events.proofs.Stored.{pool-stored}
 use Rattle.class.specs.declared.Operation.TheVariants.{Union}
-use Rattle.checks.specs.declared.Check.TheVariants.{Passed, Refused}
 use Rattle.checks.specs.Checks.{and_then}
 use Rattle.division.specs.Worked.{zero, one, two, at}
 use Rattle.division.proofs.AtBinary64.{move-laws}
@@ -99,11 +100,11 @@ unfit = edge true (at not_a_number zero) (at one one)
 abbrev dot : Edge Point
 dot = edge true (at one one) (at one one)
 
-unfit-first : checked_edges at_binary64 0 (unfit ∷ dot ∷ []) ≡ Refused (record { number = 2; place = 0 })
+unfit-first : checked_edges at_binary64 0 (unfit ∷ dot ∷ []) ≡ Err (record { reason = Reason.Coordinate; place = 0 })
 unfolding swept checked_edges checked_edge and_then
 unfit-first = refl
 
-unfit-last : checked_edges at_binary64 0 (dot ∷ unfit ∷ []) ≡ Refused (record { number = 3; place = 0 })
+unfit-last : checked_edges at_binary64 0 (dot ∷ unfit ∷ []) ≡ Err (record { reason = Reason.Ends; place = 0 })
 unfolding swept checked_edges checked_edge and_then
 unfit-last = refl
 
@@ -126,7 +127,7 @@ untied = refl
 exchanged : Permᴰ (rising ∷ falling ∷ []) (falling ∷ rising ∷ [])
 exchanged = Permᴰ.swap refl refl
 
-passes : checked_edges at_binary64 0 (rising ∷ falling ∷ []) ≡ Passed
+passes : checked_edges at_binary64 0 (rising ∷ falling ∷ []) ≡ Ok tt
 unfolding swept checked_edges checked_edge and_then
 passes = refl
 

@@ -1,7 +1,7 @@
 -- The early stop does not depend on the order of the records: to the right of a farthest point is to the right of every point.
+use Rattle.std.proofs.Common.{Option, None, Some}
 use mathlib.Core.Path.{◌≡◌, refl, sym, ap, ap₂, ◌∙◌}
 use mathlib.Core.Bool.{Bool, true, false, cond, ◌&&◌, ◌||◌, beq, true≢false}
-use mathlib.Core.Option.{Option, none, some}
 use Prim.Native.Nat.{ℕ, zero, suc, ◌<◌}
 use native.Mathlib.Omega.{arith}
 use lib.Dec.{ltb}
@@ -51,10 +51,10 @@ module _ {P : Type 0} {C : Coordinates P} (L : OrderLaws C) where
 
     right-of-farther : (o : Option P) (r : P) → is_right_of C (farther C o r) p ≡ (is_right_of C o p && C.less_x r p)
     unfolding is_right_of farther
-    right-of-farther none r = refl
-    right-of-farther (some q) r = go (C.less_x q r) ∙ right-of-both q r
+    right-of-farther None r = refl
+    right-of-farther (Some q) r = go (C.less_x q r) ∙ right-of-both q r
       where
-        go : (x : Bool) → is_right_of C (cond x (some r) (some q)) p ≡ cond x (C.less_x r p) (C.less_x q p)
+        go : (x : Bool) → is_right_of C (cond x (Some r) (Some q)) p ≡ cond x (C.less_x r p) (C.less_x q p)
         go true = refl
         go false = refl
 

@@ -1,12 +1,11 @@
 -- The theorem, over any kind of coordinate, any store and any crossing: where the edges load and the run tells no tie, another order of the edges changes
 -- record numbers and nothing else. And 01's hypothesis is enough: where no two waiting events ever tie, the run tells no tie.
+use Rattle.std.proofs.Common.{None, Ok, Option, Some}
 use mathlib.Core.Path.{◌≡◌, refl, sym, ap, ap₂, ◌∙◌, subst}
 use mathlib.Core.Bool.{Bool, false, ◌||◌}
 use mathlib.Core.List.{List, Permᴰ}
 use Prim.Native.Nat.{ℕ, zero, suc, ◌<◌, ◌≤◌, ◌*◌}
 use lib.ListN.{length}
-use Rattle.events.specs.declared.Link.{Link}
-use Rattle.events.specs.declared.Link.TheVariants.{None, To}
 use Rattle.events.specs.Coordinates.{Coordinates, Crossing}
 use Rattle.events.specs.Renaming.{rename}
 use Rattle.events.specs.Store.{Store}
@@ -14,7 +13,6 @@ use Rattle.events.proofs.Stored.{Stored}
 use Rattle.events.proofs.Looks.{Blanks, look_in}
 use Rattle.class.specs.declared.Operation.{Operation}
 use Rattle.division.proofs.Sides.{MoveLaws}
-use Rattle.checks.specs.declared.Check.TheVariants.{Passed}
 use Rattle.loading.specs.Loading.{Edge, loaded, checked_edges}
 use Rattle.waiting.specs.Waiting.{flagged}
 use Rattle.waiting.proofs.First.{found, none-rivals}
@@ -59,23 +57,23 @@ module _ {P S : Type 0} {C : Coordinates P} {K : Store P S} (M : MoveLaws C) (st
         }
 
   -- 01's sentence, by what the run itself tells
-  pub order-free : {l m : List (Edge P)} → Permᴰ l m → (s s' : S) → K.size s' ≡ K.size s → 2 * length l ≤ K.size s → checked_edges C 0 l ≡ Passed
+  pub order-free : {l m : List (Edge P)} → Permᴰ l m → (s s' : S) → K.size s' ≡ K.size s → 2 * length l ≤ K.size s → checked_edges C 0 l ≡ Ok tt
       → (subdivide C K crossing op (loaded C K s 0 l) (2 * length l)).tied ≡ false → OrderFree C K crossing op l m s s'
   order-free {l} {m} p s s' e room c h = only-numbers (twin-loaded C st bl p s s' e room (as_many p)) (good-loaded C st bl M s l room c) h
 
 -- ---- 01's hypothesis
 
 module _ {P S : Type 0} (C : Coordinates P) (K : Store P S) (crossing : Crossing P) (op : Operation) (past : P → Bool) where
-  no-two-untied : (s : State S) (e : ℕ) → next C K s ≡ To e → NoTwoTie C K s → is_tied C K s e ≡ false
+  no-two-untied : (s : State S) (e : ℕ) → next C K s ≡ Some e → NoTwoTie C K s → is_tied C K s e ≡ false
   unfolding next is_tied
   no-two-untied s e h t =
       let f = found (flagged s.waits) (is_before C K s) s.used e h in
       none-rivals (flagged s.waits) (is_before C K s) e s.used (λ r l w d. t e r (record { in_use = f.below; untaken = f.waiting }) (record { in_use = l; untaken = w }) (λ q. d (sym q)))
 
-  untied-by : (s : State S) (o : Link) → next C K s ≡ o → NoTwoTie C K s → s.tied ≡ false → (step_by C K crossing op past s o).tied ≡ false
+  untied-by : (s : State S) (o : Option ℕ) → next C K s ≡ o → NoTwoTie C K s → s.tied ≡ false → (step_by C K crossing op past s o).tied ≡ false
   unfolding step_by halt
   untied-by s None q t h = h
-  untied-by s (To e) q t h = tied-taken C K crossing op past s e ∙ ap₂ (λ x y. x || y) h (no-two-untied s e q t)
+  untied-by s (Some e) q t h = tied-taken C K crossing op past s e ∙ ap₂ (λ x y. x || y) h (no-two-untied s e q t)
 
   -- from a state on, at each taking
   abbrev Apart : State S → Type 0

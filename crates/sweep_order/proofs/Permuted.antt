@@ -1,11 +1,10 @@
 -- Another order of the edges renames the loaded records, two by two, and no number beyond them.
+use Rattle.std.proofs.Common.{None, Option, Some}
 use mathlib.Core.Path.{◌≡◌, refl, sym, ap, ◌∙◌}
 use mathlib.Core.List.{List, [], ◌∷◌, Permᴰ}
 use Prim.Native.Nat.{ℕ, zero, suc, ◌≤◌, ◌*◌}
 use native.Mathlib.Omega.{arith}
 use lib.ListN.{length}
-use Rattle.events.specs.declared.Link.{Link}
-use Rattle.events.specs.declared.Link.TheVariants.{None, To}
 use Rattle.events.specs.Coordinates.{Coordinates}
 use Rattle.events.specs.Event.{Event}
 use Rattle.events.specs.Renaming.{rename_link, rename}
@@ -103,9 +102,9 @@ module _ {P : Type 0} where
   unfolding rename rename_link
   rename-rename f g h k e = rw (k e.partner, go e.below)
     where
-      go : (o : Link) → rename_link f (rename_link g o) ≡ rename_link h o
+      go : (o : Option ℕ) → rename_link f (rename_link g o) ≡ rename_link h o
       go None = refl
-      go (To a) = ap To (k a)
+      go (Some a) = ap Some (k a)
 
 -- ---- the loaded records
 

@@ -1,12 +1,11 @@
 -- Two runs from states that are one but for names stay so, step by step, where no waiting event tied with one taken: the one taken is then strictly
 -- before every other that waits, in both.
+use Rattle.std.proofs.Common.{None, Option, Some}
 use mathlib.Core.Path.{◌≡◌, refl, sym, ap, ◌∙◌, subst}
 use mathlib.Core.Bool.{Bool, false}
 use mathlib.Core.List.{List}
 use Prim.Native.Nat.{ℕ, suc, ◌<◌}
 use lib.ListN.{set}
-use Rattle.events.specs.declared.Link.{Link}
-use Rattle.events.specs.declared.Link.TheVariants.{None, To}
 use Rattle.events.specs.Coordinates.{Coordinates, Crossing}
 use Rattle.events.specs.Renaming.{rename}
 use Rattle.events.specs.Store.{Store, look}
@@ -43,7 +42,7 @@ abbrev pub Flags : (ℕ → ℕ) → List Bool → List Bool → Type 0
 Flags f w w' = (r : ℕ) → flagged w' (f r) ≡ flagged w r
 
 module _ {P S : Type 0} {C : Coordinates P} {K : Store P S} (M : MoveLaws C) (st : Stored K) (bl : Blanks K) where
-  strictly : (s : State S) → Good C K s.store s.used → (e : ℕ) → next C K s ≡ To e → is_tied C K s e ≡ false → Strict (flagged s.waits) (is_before C K s) e s.used
+  strictly : (s : State S) → Good C K s.store s.used → (e : ℕ) → next C K s ≡ Some e → is_tied C K s e ≡ false → Strict (flagged s.waits) (is_before C K s) e s.used
   unfolding next is_tied is_before key_used
   strictly s g e h u =
       strict (flagged s.waits) (is_before C K s) (λ r. r < s.used)
@@ -87,10 +86,10 @@ module _ {P S : Type 0} {C : Coordinates P} {K : Store P S} (M : MoveLaws C) (st
       order-to : (a c : ℕ) → is_before C K z' (ρ.to a) (ρ.to c) ≡ is_before C K z a c
       order-to a c = before-to t C a c
 
-      go : (o : Link) → next C K z ≡ o → NextAlike B C K C K z z'
+      go : (o : Option ℕ) → next C K z ≡ o → NextAlike B C K C K z z'
       go None p = over p (none-to ρ _ _ (is_before C K z) (is_before C K z') f order-to m t.grown p)
-      go (To e) p =
-          let here = subst (λ (o : Link). (run C K crossing op past k (step_by C K crossing op past z o)).tied ≡ false) p (sym (ap (λ (x : State S). x.tied) (onward C K crossing op past k z q)) ∙ c) in
+      go (Some e) p =
+          let here = subst (λ (o : Option ℕ). (run C K crossing op past k (step_by C K crossing op past z o)).tied ≡ false) p (sym (ap (λ (x : State S). x.tied) (onward C K crossing op past k z q)) ∙ c) in
           let untied = untied-at C K crossing op past k z e here in
           let first = strictly M st bl z (store-known A I v) e p untied in
           takes-up p (first_to ρ _ _ (is_before C K z) (is_before C K z') f order-to m t.grown e p first)

@@ -1,5 +1,6 @@
 -- The scan for the first waiting event follows a renaming where no other ties with what it finds: such a one is strictly before every other that
 -- waits, and a strictly first one is found in any order of the scan.
+use Rattle.std.proofs.Common.{None, Option, Some}
 use mathlib.Core.Path.{◌≡◌, refl, sym, ap, ◌∙◌}
 use mathlib.Core.Logic.{◌≢◌}
 use mathlib.Core.Bool.{Bool, true, false, not, cond, ◌&&◌, true≢false}
@@ -7,8 +8,6 @@ use Prim.Native.Nat.{ℕ, zero, suc, ◌<◌, ◌≤◌}
 use native.Mathlib.Omega.{arith}
 use lib.Dec.{ltb}
 use borrow.Author.Tests.{ne_eqb}
-use Rattle.events.specs.declared.Link.{Link}
-use Rattle.events.specs.declared.Link.TheVariants.{None, To}
 use Rattle.checks.proofs.Unstruck.{neither}
 use Rattle.waiting.specs.Waiting.{choose, first, rivals, rivalled}
 use Rattle.waiting.specs.Queue.{leads}
@@ -35,7 +34,7 @@ module _ (waits : ℕ → Bool) (before : ℕ → ℕ → Bool) where
       go true = a.forth
       go false = rw a.back
 
-  strict-found : (c n : ℕ) → Strict waits before c n → Found waits n c → first waits before n ≡ To c
+  strict-found : (c n : ℕ) → Strict waits before c n → Found waits n c → first waits before n ≡ Some c
   strict-found c n h f = leader-found waits before c n (λ r l w d. strict-leads c r (h r l w d)) f
 
   -- ---- rivals
@@ -62,7 +61,7 @@ module _ (waits : ℕ → Bool) (before : ℕ → ℕ → Bool) where
         go true e = refl
         go false e = sym e ∙ total q q d d e
 
-    least : (n : ℕ) → ((r : ℕ) → r < n → D r) → (c : ℕ) → first waits before n ≡ To c → (r : ℕ) → r < n → waits r ≡ true → before c r ≡ true
+    least : (n : ℕ) → ((r : ℕ) → r < n → D r) → (c : ℕ) → first waits before n ≡ Some c → (r : ℕ) → r < n → waits r ≡ true → before c r ≡ true
     unfolding first choose
     least zero d c e r l k = absurd (omega arith)
     least (suc n) d c e r l k = go (waits n) refl (first waits before n) refl (least n (λ q i. d q (omega arith))) e
@@ -70,18 +69,18 @@ module _ (waits : ℕ → Bool) (before : ℕ → ℕ → Bool) where
         B : ℕ → ℕ → Type 0
         B m x = waits x ≡ true → before m x ≡ true
 
-        go : (x : Bool) → waits n ≡ x → (o : Link) → first waits before n ≡ o
-            → ((c : ℕ) → o ≡ To c → (r : ℕ) → r < n → waits r ≡ true → before c r ≡ true) → cond x (choose before o n) o ≡ To c → before c r ≡ true
+        go : (x : Bool) → waits n ≡ x → (o : Option ℕ) → first waits before n ≡ o
+            → ((c : ℕ) → o ≡ Some c → (r : ℕ) → r < n → waits r ≡ true → before c r ≡ true) → cond x (choose before o n) o ≡ Some c → before c r ≡ true
         go false p o f ih q = below_suc (B c) n r l (λ w. absurd (true≢false (sym w ∙ p))) (ih c q r) k
         go true p None f ih q =
             let i : n ≡ c = cc in
             rw (← i) (below_suc (B n) n r l (λ w. self n (d n (omega arith))) (λ j w. absurd (true≢false (sym w ∙ found_none waits before n f r j))) k)
-        go true p (To m) f ih q = pick (before m n) refl q
+        go true p (Some m) f ih q = pick (before m n) refl q
           where
             m-below : m < n
             m-below = (found waits before n m f).below
 
-            pick : (x : Bool) → before m n ≡ x → cond x (To m) (To n) ≡ To c → before c r ≡ true
+            pick : (x : Bool) → before m n ≡ x → cond x (Some m) (Some n) ≡ Some c → before c r ≡ true
             pick true t u =
                 let i : m ≡ c = cc in
                 rw (← i) (below_suc (B m) n r l (λ w. t) (ih m refl r) k)
@@ -91,7 +90,7 @@ module _ (waits : ℕ → Bool) (before : ℕ → ℕ → Bool) where
                 let dm = d m (omega (arith, m-below)) in
                 rw (← i) (below_suc (B n) n r l (λ w. self n dn) (λ j w. trans n m r dn dm (d r l) (total m n dm dn t) (ih m refl r j w)) k)
 
-    pub strict : (n : ℕ) → ((r : ℕ) → r < n → D r) → (c : ℕ) → first waits before n ≡ To c → rivalled waits before c n ≡ false → Strict waits before c n
+    pub strict : (n : ℕ) → ((r : ℕ) → r < n → D r) → (c : ℕ) → first waits before n ≡ Some c → rivalled waits before c n ≡ false → Strict waits before c n
     strict n d c e u r l w k =
         let forth = least n d c e r l w in
         record { forth = forth; back = rw forth at (unrivalled c n u r l w k) }
@@ -116,8 +115,8 @@ module _ {n : ℕ} (ρ : Renaming n) (waits waits' : ℕ → Bool) (before befor
       let named : ρ.to (ρ.from r) ≡ r = ρ.to_from r in
       ap waits' (sym named) ∙ same-waits (ρ.from r) ∙ found_none waits before m e (ρ.from r) (below-from ρ m (ρ.from r) grown (rw named l)))
 
-  module _ (c : ℕ) (is-first : first waits before m ≡ To c) (s : Strict waits before c m) where
-    pub first_to : first waits' before' m ≡ To (ρ.to c)
+  module _ (c : ℕ) (is-first : first waits before m ≡ Some c) (s : Strict waits before c m) where
+    pub first_to : first waits' before' m ≡ Some (ρ.to c)
     first_to =
         let f = found waits before m c is-first in
         strict-found waits' before' (ρ.to c) m (strict-to c s) (record { waiting = same-waits c ∙ f.waiting; below = below-to ρ m c grown f.below })

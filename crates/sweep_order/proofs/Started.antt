@@ -1,4 +1,5 @@
 -- The sweep's start, on the edges loaded in two orders: the same but for names, and every record sound.
+use Rattle.std.proofs.Common.{None, Ok, Option, Some}
 use mathlib.Core.Path.{◌≡◌, refl, sym, ap, ◌∙◌}
 use mathlib.Core.Bool.{Bool, true, false, cond}
 use mathlib.Core.List.{List, [], ◌∷◌, Permᴰ}
@@ -7,15 +8,12 @@ use native.Mathlib.Omega.{arith}
 use lib.ListN.{length}
 use lib.Dec.{ltb}
 use borrow.Author.Tests.{ltb-true, ltb-false}
-use Rattle.events.specs.declared.Link.{Link}
-use Rattle.events.specs.declared.Link.TheVariants.{None, To}
 use Rattle.events.specs.Coordinates.{Coordinates}
 use Rattle.events.specs.Event.{Event}
 use Rattle.events.specs.Renaming.{rename_link, rename}
 use Rattle.events.specs.Store.{Store, look}
 use Rattle.events.proofs.Stored.{Stored}
 use Rattle.events.proofs.Looks.{Blanks}
-use Rattle.checks.specs.declared.Check.TheVariants.{Passed}
 use Rattle.order.proofs.Laws.{ahead_apart}
 use Rattle.division.proofs.Sides.{MoveLaws}
 use Rattle.loading.specs.Loading.{Edge, loaded, checked_edges}
@@ -50,9 +48,9 @@ module _ {P : Type 0} where
   unfolding rename rename_link
   rename-same f h e = rw (h e.partner, go e.below)
     where
-      go : (o : Link) → rename_link f o ≡ o
+      go : (o : Option ℕ) → rename_link f o ≡ o
       go None = refl
-      go (To a) = ap To (h a)
+      go (Some a) = ap Some (h a)
 
 module _ {P S : Type 0} (C : Coordinates P) {K : Store P S} (st : Stored K) (bl : Blanks K) where
   at-beyond : (l : List (Edge P)) (r : ℕ) → 2 * length l ≤ r → at C K l r ≡ K.blank r
@@ -86,7 +84,7 @@ module _ {P S : Type 0} (C : Coordinates P) {K : Store P S} (st : Stored K) (bl 
 
   -- ---- sound
 
-  pub good-loaded : MoveLaws C → (s : S) (l : List (Edge P)) → 2 * length l ≤ K.size s → checked_edges C 0 l ≡ Passed → Good C K (loaded C K s 0 l) (2 * length l)
+  pub good-loaded : MoveLaws C → (s : S) (l : List (Edge P)) → 2 * length l ≤ K.size s → checked_edges C 0 l ≡ Ok tt → Good C K (loaded C K s 0 l) (2 * length l)
   good-loaded M s l room h =
       let held = rows C st l s 0 (omega arith) in
       good-checked C K (loaded C K s 0 l) (2 * length l) (rw (size-loaded C st l s 0) room)

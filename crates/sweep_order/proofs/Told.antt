@@ -1,9 +1,8 @@
 -- A tie once told stays told: a turn tells none, and a step tells what it found beside what was told before. So a run that ends untied was never tied.
+use Rattle.std.proofs.Common.{None, Option, Some}
 use mathlib.Core.Path.{◌≡◌, sym, ◌∙◌}
 use mathlib.Core.Bool.{Bool, false, ◌||◌}
 use Prim.Native.Nat.{ℕ, zero, suc}
-use Rattle.events.specs.declared.Link.{Link}
-use Rattle.events.specs.declared.Link.TheVariants.{None, To}
 use Rattle.events.specs.Coordinates.{Coordinates, Crossing}
 use Rattle.events.specs.Store.{Store}
 use Rattle.class.specs.declared.Operation.{Operation}
@@ -16,15 +15,15 @@ use Rattle.checks.proofs.Unstruck.{neither}
 
 module _ {P S : Type 0} (C : Coordinates P) (K : Store P S) (crossing : Crossing P) (op : Operation) (past : P → Bool) where
   -- what a step tells of ties
-  pub tied-taken : (s : State S) (e : ℕ) → (step_by C K crossing op past s (To e)).tied ≡ (s.tied || is_tied C K s e)
+  pub tied-taken : (s : State S) (e : ℕ) → (step_by C K crossing op past s (Some e)).tied ≡ (s.tied || is_tied C K s e)
   unfolding step_by takes
   tied-taken s e = (beside C K crossing op past (takes s e (is_tied C K s e)) e).tied
 
   -- ---- a tie once told stays told
-  untied-step : (s : State S) (o : Link) → (step_by C K crossing op past s o).tied ≡ false → s.tied ≡ false
+  untied-step : (s : State S) (o : Option ℕ) → (step_by C K crossing op past s o).tied ≡ false → s.tied ≡ false
   unfolding step_by halt
   untied-step s None h = h
-  untied-step s (To e) h = (neither s.tied (is_tied C K s e) (sym (tied-taken s e) ∙ h)).0
+  untied-step s (Some e) h = (neither s.tied (is_tied C K s e) (sym (tied-taken s e) ∙ h)).0
 
   pub untied-run : (k : ℕ) (s : State S) → (run C K crossing op past k s).tied ≡ false → s.tied ≡ false
   unfolding run go_on step
@@ -38,5 +37,5 @@ module _ {P S : Type 0} (C : Coordinates P) (K : Store P S) (crossing : Crossing
       go (Refused r) ih h = h
 
   -- no waiting event tied with the one that a step took
-  pub untied-at : (k : ℕ) (s : State S) (e : ℕ) → (run C K crossing op past k (step_by C K crossing op past s (To e))).tied ≡ false → is_tied C K s e ≡ false
+  pub untied-at : (k : ℕ) (s : State S) (e : ℕ) → (run C K crossing op past k (step_by C K crossing op past s (Some e))).tied ≡ false → is_tied C K s e ≡ false
   untied-at k s e h = (neither s.tied (is_tied C K s e) (sym (tied-taken s e) ∙ untied-run k _ h)).1

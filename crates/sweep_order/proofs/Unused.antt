@@ -1,5 +1,6 @@
 -- Places that are not in use stay as lent: a step writes at the event taken, at members of the status, at the ends of a divided segment and at the two
 -- new places, and all these are in use after it.
+use Rattle.std.proofs.Common.{Ok}
 use mathlib.Core.Path.{◌≡◌, refl, ap, ◌∙◌}
 use mathlib.Core.Logic.{◌≢◌}
 use mathlib.Core.Bool.{Bool}
@@ -12,7 +13,6 @@ use Rattle.events.proofs.Stored.{Stored}
 use Rattle.events.proofs.Looks.{Blanks}
 use Rattle.events.proofs.Faces.{Face}
 use Rattle.class.specs.declared.Operation.{Operation}
-use Rattle.division.specs.declared.Division.TheVariants.{Done}
 use Rattle.division.specs.declared.Divided.{Divided}
 use Rattle.division.specs.Division.{moved, After, parted, done, divide}
 use Rattle.division.proofs.Outcomes.{passed}
@@ -40,7 +40,7 @@ module _ {P S A : Type 0} {C : Coordinates P} {K : Store P S} (M : MoveLaws C) (
   held-parted s used i e f c keep own other r l =
       away _ e.partner r _ (λ q. omega arith) ∙ away _ i r _ (λ q. omega arith) ∙ away-enter _ (used + 1) r _ (λ q. omega arith) ∙ away-enter s used r _ (λ q. omega arith)
 
-  lent-divided : (used : ℕ) (s : S) (i : ℕ) (p : P) (d : Divided) → AsLent used s → (divide C K s used i p).answer ≡ Done d → AsLent (divide C K s used i p).used (divide C K s used i p).store
+  lent-divided : (used : ℕ) (s : S) (i : ℕ) (p : P) (d : Divided) → AsLent used s → (divide C K s used i p).answer ≡ Ok d → AsLent (divide C K s used i p).used (divide C K s used i p).store
   unfolding done
   lent-divided used s i p d h q =
       let ok = passed C K s used i p d q in

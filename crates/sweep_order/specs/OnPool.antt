@@ -1,16 +1,14 @@
 -- 01's sentence about the two calls, loading and the sweep, on lent arrays at binary64, in any mode of crossing.
-use Rattle.std.specs.Prelude.{◌≡◌, ℕ, ◌<◌, ◌≤◌, length, get_or}
+use Rattle.std.specs.Prelude.{◌≡◌, ℕ, ◌<◌, ◌≤◌, length, get_or, Err, Ok}
+use Rattle.refusals.specs.Refusals.{Verdict}
 use mathlib.Core.List.{List, [], map, Permᴰ}
 use Rattle.std.proofs.lemmas.List.Edits.{sets}
 use Rattle.events.specs.Binary64.{at_binary64, in_mode}
 use Rattle.events.specs.Renaming.{rename}
 use Rattle.events.specs.Pool.{Pool, row_at, stored}
 use Rattle.class.specs.declared.Operation.{Operation}
-use Rattle.loading.specs.declared.Loaded.TheVariants.{Done as Loaded}
 use Rattle.loading.specs.OnPool.{edges_of, load}
 use Rattle.sweep.specs.declared.Swept.{Swept}
-use Rattle.sweep.specs.declared.Outcome.{Outcome}
-use Rattle.sweep.specs.declared.Outcome.TheVariants.{Done, Refused}
 use Rattle.sweep.specs.OnPool.{After, subdivide_pool}
 use Rattle.sweep_order.specs.SameBut.{rename_refusal}
 use Rattle.sweep_order.specs.Loadings.{OnlyNumbers}
@@ -30,9 +28,9 @@ pub record SameSize (p : Pool) (taken : List ℕ) (p' : Pool) (taken' : List ℕ
 
 -- ---- what the sweep leaves
 
-unfoldable pub rename_outcome : (ℕ → ℕ) → Outcome → Outcome
-rename_outcome ρ Done = Done
-rename_outcome ρ (Refused r) = Refused (rename_refusal ρ r)
+unfoldable pub rename_outcome : (ℕ → ℕ) → Verdict → Verdict
+rename_outcome ρ (Ok _) = Ok tt
+rename_outcome ρ (Err r) = Err (rename_refusal ρ r)
 
 -- every count is the same
 unfoldable pub rename_swept : (ℕ → ℕ) → Swept → Swept
@@ -60,7 +58,7 @@ pub record SameAfter (ρ : ℕ → ℕ) (p : Pool) (lent : List ℕ) (a : After)
 -- Edges that were loaded, n records in all, load in another order too; the runs are the same but for names, step by step; and so are the calls.
 pub record OrderFreeCalls (op : Operation) (mode n : ℕ) (ends : List (List ℕ)) (labels : List (List ℕ)) (p : Pool) (taken : List ℕ)
     (ends' : List (List ℕ)) (labels' : List (List ℕ)) (p' : Pool) (taken' : List ℕ) : Type 0 where
-  pub loads : (load ends' labels' p').answer ≡ Loaded n
+  pub loads : (load ends' labels' p').answer ≡ Ok n
   pub runs : OnlyNumbers at_binary64 stored (in_mode mode) op n (load ends labels p).pool (load ends' labels' p').pool
   pub calls : SameAfter runs.renaming.to (load ends labels p).pool taken (subdivide_pool op mode (load ends labels p).pool n taken)
       (load ends' labels' p').pool taken' (subdivide_pool op mode (load ends' labels' p').pool n taken')

@@ -18,7 +18,7 @@ pub record Renaming (n : ℕ) : Type 0 where
 
 -- a refusal keeps its number and tells the record by its new name
 unfoldable pub rename_refusal : (ℕ → ℕ) → Refusal → Refusal
-rename_refusal ρ r = record { number = r.number; place = ρ r.place }
+rename_refusal ρ r = record { reason = r.reason; place = ρ r.place }
 
 unfoldable pub rename_stop : (ℕ → ℕ) → Stop → Stop
 rename_stop ρ Going = Going

@@ -1,19 +1,20 @@
 -- The front of a store and the whole, side by side: every test reads records in use, so that it is one test in both, and only the test for room sees how
 -- many places there are. What a turn asks of two runs (`sweep`) is shown here law by law.
+use Rattle.refusals.specs.Refusals.{same_reason}
+use Rattle.std.proofs.Common.{Option, None, Some}
+use Rattle.refusals.specs.declared.Reason.TheVariants as Reason
 use mathlib.Core.Path.{◌≡◌, refl, sym, ap, ap₂, ◌∙◌}
 use mathlib.Core.Bool.{Bool, true, false, not, cond, ◌||◌}
 use Prim.Native.Nat.{ℕ, ◌+◌}
 use native.Mathlib.Omega.{arith}
 use lib.Dec.{eqb}
-use Rattle.events.specs.declared.Link.{Link}
-use Rattle.events.specs.declared.Link.TheVariants.{None, To}
 use Rattle.events.specs.Coordinates.{Coordinates, Crossing}
 use Rattle.events.specs.Event.{Event}
 use Rattle.events.specs.Store.{Store, look}
 use Rattle.events.proofs.Stored.{Stored}
 use Rattle.order.specs.Keys.{key_used}
 use Rattle.class.specs.declared.Operation.{Operation}
-use Rattle.class.specs.Class.{Lower, fields}
+use Rattle.class.specs.Class.{fields, Neighbour}
 use Rattle.division.specs.Division.{moves, moved, misses, keeps, full, parted, refused, done, divide_at, divide}
 use Rattle.division.proofs.Records.{size-parted}
 use Rattle.neighbours.specs.Step.{stop_of, cut}
@@ -34,7 +35,7 @@ pub data Fronted {P S : Type 0} {K : Store P S} {n : ℕ} (F : Front K n) (m : �
 
 -- the run in the front goes its own way when it wants room
 unfoldable pub fronts : {P S : Type 0} {K : Store P S} {n : ℕ} → Front K n → Likeness P S P S
-fronts F = record { Stores = Fronted F; Numbers = λ m. Any; Points = Any; Refusals = Any; Departs = λ r. eqb r.number 6 ≡ true; later = λ m k r r' l h. h }
+fronts F = record { Stores = Fronted F; Numbers = λ m. Any; Points = Any; Refusals = Any; Departs = λ r. same_reason r.reason Reason.Full ≡ true; later = λ m k r r' l h. h }
 
 module _ {P S : Type 0} (C : Coordinates P) {K : Store P S} (st : Stored K) {n : ℕ} (F : Front K n) where
   abbrev B : Likeness P S P S
@@ -54,8 +55,8 @@ module _ {P S : Type 0} (C : Coordinates P) {K : Store P S} (st : Stored K) {n :
       keep = keeps C e f c
 
       go : (off short : Bool) → full K (F.front s) m ≡ short
-          → StepsAlike B m (m + 2) (step_of (cond off (refused s m 7 i) (cond (full K s m) (refused s m 6 i) (done C K s m i e f c move))))
-          (step_of (cond off (refused (F.front s) m 7 i) (cond short (refused (F.front s) m 6 i) (done C K (F.front s) m i e f c move))))
+          → StepsAlike B m (m + 2) (step_of (cond off (refused s m Reason.Cut i) (cond (full K s m) (refused s m Reason.Full i) (done C K s m i e f c move))))
+          (step_of (cond off (refused (F.front s) m Reason.Cut i) (cond short (refused (F.front s) m Reason.Full i) (done C K (F.front s) m i e f c move))))
       go true short q = halted {n = m} (omega arith) (record { alike = front w }) (same tt)
       go false true q = out refl
       go false false q =
@@ -81,23 +82,23 @@ module _ {P S : Type 0} (C : Coordinates P) {K : Store P S} (st : Stored K) {n :
       let is_front : coincided C K (F.front s) m a b ≡ F.front (coincided C K s m a b) = rw (coincided, look-front F w) (simp F.store-front) in
       rw is_front (front (within-store F (within-store F w st b _) st a _))
 
-  lower-front : {s : S} {m : ℕ} → Within K n s m → (l : Link) → lower_in C K (F.front s) m l ≡ lower_in C K s m l
+  lower-front : {s : S} {m : ℕ} → Within K n s m → (l : Option ℕ) → lower_in C K (F.front s) m l ≡ lower_in C K s m l
   unfolding lower_in neighbour_in
   lower-front w None = refl
-  lower-front w (To k) = rw (right-front F w k, look-front F w)
+  lower-front w (Some k) = rw (right-front F w k, look-front F w)
 
-  class-alike : (op : Operation) (m : ℕ) (s s' : S) (e e' : ℕ) (l l' : Link) → Fronted F m s s' → Any e e' → l' ≡ l → Fronted F m (classified C K op s m e l) (classified C K op s' m e' l')
+  class-alike : (op : Operation) (m : ℕ) (s s' : S) (e e' : ℕ) (l l' : Option ℕ) → Fronted F m s s' → Any e e' → l' ≡ l → Fronted F m (classified C K op s m e l) (classified C K op s' m e' l')
   unfolding classified
   class-alike op m s s' e e' l l' (front w) (same _) q =
       let is_front : classified C K op (F.front s) m e l ≡ F.front (classified C K op s m e l)
-      = ap₂ (λ (own : Event P) (below : Lower P). K.store (F.front s) e (fields op own below)) (ap (λ (row : ℕ → Event P). row e) (look-front F w)) (lower-front w l)
+      = ap₂ (λ (own : Event P) (below : Option (Neighbour P)). K.store (F.front s) e (fields op own below)) (ap (λ (row : ℕ → Event P). row e) (look-front F w)) (lower-front w l)
       ∙ sym (F.store-front s e (fields op (look K s m e) (lower_in C K s m l))) in
       rw (q, is_front) (front (within-store F w st e _))
 
-  link-is : {m : ℕ} {l l' : Link} → LinksAlike B m l l' → l' ≡ l
+  link-is : {m : ℕ} {l l' : Option ℕ} → LinksAlike B m l l' → l' ≡ l
   unfolding fronts
   link-is nowhere = refl
-  link-is (leads h) = λ i. To (is h.alike i)
+  link-is (leads h) = λ i. Some (is h.alike i)
 
   -- ---- what a turn asks
   pub keyed-front : Keyed B C K K
@@ -110,7 +111,7 @@ module _ {P S : Type 0} (C : Coordinates P) {K : Store P S} (st : Stored K) {n :
         fresh = λ w l. record { alike = same tt };
         points = λ e. record { alike = any e };
         points-are = λ q. is q.alike;
-        told = λ h. any (ap (λ k. record { number = 7; place = k }) (is h.alike));
+        told = λ h. any (ap (λ k. record { reason = Reason.Cut; place = k }) (is h.alike));
         cuts = λ w h e. cut-front w.alike h.alike (any e);
         coincides = λ w h l. record { alike = coincide-alike w.alike h.alike l.alike };
       }

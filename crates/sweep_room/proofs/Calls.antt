@@ -1,4 +1,6 @@
 -- What the two calls leave in the first places of a larger pool is what they leave in a pool of those places alone, unless the sweep of that one wants room.
+use Rattle.std.proofs.Common.{Err, Ok}
+use Rattle.refusals.specs.Refusals.{Verdict}
 use mathlib.Core.Path.{◌≡◌, refl, sym, ap, ◌∙◌}
 use mathlib.Core.Bool.{false}
 use mathlib.Core.List.{List}
@@ -12,8 +14,6 @@ use Rattle.events.specs.Binary64.{at_binary64, in_mode}
 use Rattle.events.specs.Pool.{Pool, size, row_at, stored}
 use Rattle.events.proofs.Stored.{pool-stored}
 use Rattle.class.specs.declared.Operation.{Operation}
-use Rattle.checks.specs.declared.Check.{Check}
-use Rattle.checks.specs.declared.Check.TheVariants.{Passed, Refused as Struck}
 use Rattle.checks.specs.Checks.{max_events, missized, and_then}
 use Rattle.loading.specs.Loading.{Edge}
 use Rattle.loading.specs.OnPool as Loads
@@ -35,15 +35,15 @@ use Rattle.sweep_room.proofs.Checked.{checked-alike}
 -- ---- loading
 
 -- two arrays of one size within the limit, with two places for each edge
-room-passes : (points marks edges : ℕ) → marks ≡ points → points ≤ max_events → 2 * edges ≤ points → Loads.pool_sized points marks edges ≡ Passed
+room-passes : (points marks edges : ℕ) → marks ≡ points → points ≤ max_events → 2 * edges ≤ points → Loads.pool_sized points marks edges ≡ Ok tt
 unfolding Loads.pool_sized missized
 room-passes points marks edges e few room = rw (e, eq-eqb points points refl, le-ltb max_events points few, le-ltb points (2 * edges) room)
 
 module _ (n : ℕ) (p : Pool) where
-  after-loading : (c : Check) (edges : List (Edge Point)) → Loads.after_checks c edges (first_places n p) ≡ first_of_loaded n (Loads.after_checks c edges p)
+  after-loading : (c : Verdict) (edges : List (Edge Point)) → Loads.after_checks c edges (first_places n p) ≡ first_of_loaded n (Loads.after_checks c edges p)
   unfolding Loads.after_checks first_of_loaded pool-front
-  after-loading Passed edges = ap (Loads.after _) (loaded-front at_binary64 (pool-front n) edges p 0)
-  after-loading (Struck r) edges = refl
+  after-loading (Ok _) edges = ap (Loads.after _) (loaded-front at_binary64 (pool-front n) edges p 0)
+  after-loading (Err r) edges = refl
 
 pub load-room : (n : ℕ) (ends : List (List ℕ)) (labels : List (List ℕ)) (p : Pool)
     → n ≤ length p.points → length p.marks ≡ length p.points → length p.points ≤ max_events → 2 * length ends ≤ n
@@ -64,7 +64,7 @@ stop-wants Ended = refl
 stop-wants (Refused r) = refl
 
 -- three arrays of one size within the limit, with a place for each record
-sizes-pass : (points marks taken k : ℕ) → marks ≡ points → taken ≡ points → points ≤ max_events → k ≤ points → sizes points marks taken k ≡ Passed
+sizes-pass : (points marks taken k : ℕ) → marks ≡ points → taken ≡ points → points ≤ max_events → k ≤ points → sizes points marks taken k ≡ Ok tt
 unfolding sizes missized
 sizes-pass points marks taken k e f few room = rw (e, f, eq-eqb points points refl, le-ltb max_events points few, le-ltb points k room)
 
@@ -88,12 +88,12 @@ module _ (op : Operation) (mode n : ℕ) (p : Pool) (k : ℕ) (taken : List ℕ)
       ap (λ (t : State Pool). after_run t k (take n taken)) e
       ∙ ap (Sweeps.after (answer_of s k) (first_places n s.store)) (take-sets n taken 0 s.taken)
 
-  after_first : (c : Check) → wants_room (after_checks c op mode (first_places n p) k (take n taken)).answer.outcome ≡ false
+  after_first : (c : Verdict) → wants_room (after_checks c op mode (first_places n p) k (take n taken)).answer.outcome ≡ false
       → after_checks c op mode (first_places n p) k (take n taken) ≡ first_of_swept n (after_checks c op mode p k taken)
   unfolding after_checks after_run answer_of as_lent first_of_swept pool-front stored
-  after_first Passed h =
+  after_first (Ok _) h =
       after_run_lem _ _ (subdivide-front at_binary64 pool-stored (pool-front n) (in_mode mode) op p k (record { wide = wide; fits = in-first }) (sym (stop-wants _) ∙ h))
-  after_first (Struck r) h = refl
+  after_first (Err r) h = refl
 
 pub sweep-room : (op : Operation) (mode n : ℕ) (p : Pool) (k : ℕ) (taken : List ℕ) → Larger n p taken → k ≤ n
     → wants_room (subdivide_pool op mode (first_places n p) k (take n taken)).answer.outcome ≡ false

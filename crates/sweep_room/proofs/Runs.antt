@@ -1,4 +1,7 @@
 -- Runs in the front of a store: the same event is taken at each step, so that a run there leaves what the run in the whole leaves, or wants room.
+use Rattle.refusals.specs.declared.Reason.TheVariants as Reason
+use Rattle.refusals.specs.Refusals.{same_reason}
+use Rattle.std.proofs.Common.{None, Option, Some}
 use mathlib.Core.Path.{◌≡◌, refl, sym, ap, ap₂, ◌∙◌}
 use mathlib.Core.Logic.{◌≢◌}
 use mathlib.Core.Bool.{Bool, true, false}
@@ -8,8 +11,6 @@ use native.Mathlib.Omega.{arith}
 use lib.ListN.{take, set}
 use lib.Seq.{get_or-take}
 use lib.Dec.{eqb}
-use Rattle.events.specs.declared.Link.{Link}
-use Rattle.events.specs.declared.Link.TheVariants.{None, To}
 use Rattle.events.specs.Coordinates.{Coordinates, Crossing}
 use Rattle.events.specs.Event.{Key}
 use Rattle.events.specs.Store.{Store}
@@ -58,7 +59,7 @@ module _ {P S : Type 0} (C : Coordinates P) (K : Store P S) (crossing : Crossing
 unfoldable pub stop_full : Stop → Bool
 stop_full Going = false
 stop_full Ended = false
-stop_full (Refused r) = eqb r.number 6
+stop_full (Refused r) = same_reason r.reason Reason.Full
 
 module _ {P S : Type 0} {K : Store P S} {n : ℕ} (F : Front K n) where
   unfoldable pub front_state : State S → State S
@@ -132,9 +133,9 @@ module _ {P S : Type 0} (C : Coordinates P) {K : Store P S} (st : Stored K) {n :
     unfolding fronts
     next-alike s' q = go (next C K s) refl
       where
-        go : (o : Link) → next C K s ≡ o → NextAlike (fronts F) C K C K s s'
+        go : (o : Option ℕ) → next C K s ≡ o → NextAlike (fronts F) C K C K s s'
         go None p = over p (ap (next C K) q ∙ next-front ∙ p)
-        go (To e) p = takes-up p (ap (next C K) q ∙ next-front ∙ p) (record { alike = same tt }) (ap (λ z. is_tied C K z e) q ∙ tied-front e)
+        go (Some e) p = takes-up p (ap (next C K) q ∙ next-front ∙ p) (record { alike = same tt }) (ap (λ z. is_tied C K z e) q ∙ tied-front e)
 
   runs-front : (crossing : Crossing P) (op : Operation) (past : P → Bool) → RunLaws (fronts F) (First F) op C K crossing past op C K crossing past (λ k z. Unit {0})
   unfolding fronts

@@ -1,10 +1,11 @@
 -- A larger pool and its first places, and what a call leaves in them.
-use Rattle.std.specs.Prelude.{◌≡◌, Bool, false, List, ℕ, ◌≤◌, length, take, eqb}
+use Rattle.refusals.specs.declared.Reason.TheVariants as Reason
+use Rattle.refusals.specs.Refusals.{same_reason}
+use Rattle.std.specs.Prelude.{◌≡◌, Bool, false, List, ℕ, ◌≤◌, length, take, eqb, Err, Ok}
+use Rattle.refusals.specs.Refusals.{Verdict}
 use Rattle.events.specs.Pool.{Pool, pool}
 use Rattle.checks.specs.Checks.{max_events}
 use Rattle.loading.specs.OnPool as Loads
-use Rattle.sweep.specs.declared.Outcome.{Outcome}
-use Rattle.sweep.specs.declared.Outcome.TheVariants.{Done, Refused}
 use Rattle.sweep.specs.OnPool as Sweeps
 
 -- the first n places
@@ -19,9 +20,9 @@ pub record Larger (n : ℕ) (p : Pool) (taken : List ℕ) : Type 0 where
   pub few : length p.points ≤ max_events
 
 -- a run that wanted more places
-unfoldable pub wants_room : Outcome → Bool
-wants_room Done = false
-wants_room (Refused r) = eqb r.number 6
+unfoldable pub wants_room : Verdict → Bool
+wants_room (Ok _) = false
+wants_room (Err r) = same_reason r.reason Reason.Full
 
 -- ---- what a call leaves, looked at in the first n places
 

@@ -114,7 +114,3 @@ module _ (p : Pool) (l o q : List ℕ) (t : Rows) (x : Bool) (said : x ≡ roomy
       pub all_laid : (t' : Rows) → t' ≡ filled p (take n o') t → tabulated o' q' t' n ≡ tabulate p l o q t
       unfolding tabulate
       all_laid t' g = rw (g, laid_out, in-front, placed, counted, ← said, yes)
-
-pub no_room : (p : Pool) (l o q : List ℕ) (t : Rows) (x : Bool) → x ≡ roomy p l o q t → x ≡ false → tabulated o q t 0 ≡ tabulate p l o q t
-unfolding tabulate
-no_room p l o q t x said h = rw (← said, h)

@@ -1,9 +1,7 @@
 -- What the steps do: the contracts of private functions. The places q of n ordered records are here an array.
-use Rattle.std.specs.Prelude.{◌≡◌, Bool, false, List, map, ℕ, ◌+◌, ◌≤◌, length}
+use Rattle.std.specs.Prelude.{◌≡◌, Bool, false, List, map, ℕ, ◌+◌, ◌≤◌, length, None, Option, Some}
 use Rattle.std.proofs.lemmas.List.Edits.{sets}
 use Rattle.numbers.specs.declared.Point.{Point}
-use Rattle.events.specs.declared.Link.{Link}
-use Rattle.events.specs.declared.Link.TheVariants.{None, To}
 use Rattle.events.specs.Event.{Event}
 use Rattle.events.specs.Pool.{Pool, row_at}
 use Rattle.checks.specs.Checks.{max_events}
@@ -24,17 +22,17 @@ pub record Placing (s q : List ℕ) (n : ℕ) : Type 0 where
 
 -- ---- one row
 
-unfoldable pub below_place : List ℕ → ℕ → Link → ℕ
+unfoldable pub below_place : List ℕ → ℕ → Option ℕ → ℕ
 below_place q n None = 0
-below_place q n (To b) = place_in q n b + 1
+below_place q n (Some b) = place_in q n b + 1
 
-unfoldable pub below_out_in : Pool → Link → Bool
+unfoldable pub below_out_in : Pool → Option ℕ → Bool
 below_out_in p None = false
-below_out_in p (To b) = is_out_in (row_at p b).transition
+below_out_in p (Some b) = is_out_in (row_at p b).transition
 
-unfoldable pub below_in : Pool → List ℕ → ℕ → Link → Below
+unfoldable pub below_in : Pool → List ℕ → ℕ → Option ℕ → Below
 below_in p q n None = nothing
-below_in p q n (To b) = over (place_in q n b) (is_out_in (row_at p b).transition)
+below_in p q n (Some b) = over (place_in q n b) (is_out_in (row_at p b).transition)
 
 unfoldable pub row_in : Pool → List ℕ → ℕ → Event Point → Row Point
 row_in p q n e = record { point = e.point; left = e.left; other = place_in q n e.partner; below = below_in p q n e.below }

@@ -15,6 +15,7 @@ use positions::ordering::order_events;
 use positions::places::place_all;
 
 // The list is within the limit, and the arrays have a place for each of its entries; the places, for each record of the pool.
+#[tactic(auto, unfolding(crate::specs::Tabulation::has_room))]
 fn has_room(
     list: usize,
     order: usize,
@@ -25,22 +26,11 @@ fn has_room(
 ) -> bool
     ensures { result ≡ has_room list order records places rows at }
 {
-    if MAX_EVENTS < list {
-        return false;
-    }
-    if order < list {
-        return false;
-    }
-    if places < records {
-        return false;
-    }
-    if rows < list {
-        return false;
-    }
-    list <= at
+    list <= MAX_EVENTS && list <= order && records <= places && list <= rows && list <= at
 }
 
 // The table of a list in the first places of rows and at, and its size; nothing where there is no room.
+#[tactic(auto, unfolding(crate::specs::Tabulation::tabulate))]
 pub fn tabulate(
     points: &[[u64; 2]],
     marks: &[[u32; 12]],

@@ -7,38 +7,37 @@ ghost use Rattle.rows.specs.Rows.{lent, end_for};
 ghost use Rattle.tabulation.specs.Steps.{Few, Placing, below_place, below_out_in, row_in, put_row, filled};
 
 use events::pool::read_event;
-use events::{Event, Link, ResultTransition};
+use events::{Event, ResultTransition};
 use positions::places::place_of;
 use rows::{End, put_row};
 
+#[tactic(auto, unfolding(contours::specs::Table::is_out_in))]
 fn is_out_in(t: ResultTransition) -> bool
     ensures { result ≡ is_out_in t }
 {
-    match t {
-        ResultTransition::None => false,
-        ResultTransition::InOut => false,
-        ResultTransition::OutIn => true,
-    }
+    matches!(t, ResultTransition::OutIn)
 }
 
 // The position of the edge below + 1, or 0 for none.
-fn below_place(places: &[u32], n: u32, below: Link) -> u32
+#[tactic(auto, using(crate::proofs::Filling::place_few), unfolding(crate::specs::Steps::below_place))]
+fn below_place(places: &[u32], n: u32, below: Option<u32>) -> u32
     requires { Few places.now n }
     ensures { result ≡ below_place places.now n below }
 {
     match below {
-        Link::None => 0,
-        Link::To(b) => place_of(places, n, b) + 1,
+        None => 0,
+        Some(b) => place_of(places, n, b) + 1,
     }
 }
 
 // The edge below is OutIn.
-fn below_out_in(points: &[[u64; 2]], marks: &[[u32; 12]], below: Link) -> bool
+#[tactic(auto, unfolding(crate::specs::Steps::below_out_in))]
+fn below_out_in(points: &[[u64; 2]], marks: &[[u32; 12]], below: Option<u32>) -> bool
     ensures { result ≡ below_out_in (pool points.now marks.now) below }
 {
     match below {
-        Link::None => false,
-        Link::To(b) => {
+        None => false,
+        Some(b) => {
             let e = read_event(points, marks, b);
             let transition = e.transition;
             is_out_in(transition)
@@ -47,6 +46,7 @@ fn below_out_in(points: &[[u64; 2]], marks: &[[u32; 12]], below: Link) -> bool
 }
 
 // What the row of e holds beside its point.
+#[tactic(auto, using(crate::proofs::Filling::below_number_is, crate::proofs::Filling::below_flag_is), unfolding(crate::specs::Steps::row_in, rows::specs::Rows::end_for))]
 fn end_for(points: &[[u64; 2]], marks: &[[u32; 12]], places: &[u32], n: u32, e: Event) -> End
     requires { Few places.now n }
     ensures { result ≡ end_for (row_in (pool points.now marks.now) places.now n (shown e)) }
@@ -61,6 +61,7 @@ fn end_for(points: &[[u64; 2]], marks: &[[u32; 12]], places: &[u32], n: u32, e: 
 }
 
 // The row of record r at position i.
+#[tactic(auto, unfolding(crate::specs::Steps::put_row, crate::specs::Steps::row_in))]
 fn put_at(
     points: &[[u64; 2]],
     marks: &[[u32; 12]],
@@ -80,6 +81,7 @@ fn put_at(
 }
 
 // The rows of the first n of order, one after the other.
+#[tactic(auto, using(crate::proofs::Filling::puts_all, crate::proofs::Filling::puts_more, crate::proofs::Filling::puts_none))]
 pub fn fill(
     points: &[[u64; 2]],
     marks: &[[u32; 12]],
@@ -92,9 +94,7 @@ pub fn fill(
     requires { (n ≤ length order.now) × Placing (take n order.now) places.now n }
     ensures { lent rows.new at.new ≡ filled (pool points.now marks.now) (take n order.now) (lent rows.old at.old) }
 {
-    let mut i = 0;
-    while i < n as usize {
-        put_at(points, marks, places, n, rows, at, i, order[i]);
-        i += 1;
+    for (i, &r) in order[..n as usize].iter().enumerate() {
+        put_at(points, marks, places, n, rows, at, i, r);
     }
 }

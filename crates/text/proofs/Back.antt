@@ -1,4 +1,5 @@
 -- There and back: the digits of a number, read again, give the number. Each digit read undoes one division.
+use Rattle.std.proofs.Common.{Some}
 use mathlib.Core.Path.{◌≡◌, refl, sym, ap, ◌∙◌}
 use mathlib.Core.List.{List, [], ◌∷◌, ◌++◌, append_assoc, append-nil}
 use Prim.Native.Nat.{ℕ, zero, suc, ◌+◌, ◌*◌, ◌/◌, ◌%◌, ◌^◌, ◌≤◌, ◌<◌}
@@ -12,7 +13,6 @@ use lib.ListN.{length, take, drop, get_or}
 use lib.Seq.{sets, sets-eq, length-sets, drop-cons, drop_at, take-append_seam, length-take-le}
 use Rattle.text.specs.Digits.{digit, digits, hex, digit_of, value, hex_at, places, decimal}
 use Rattle.text.specs.Words.{bytes}
-use Rattle.text.specs.declared.digits.Read.TheVariants.{Value}
 use Rattle.text.proofs.Writing.{digit_low, digit-high, digits-length, fewer}
 use Rattle.text.proofs.Reading.{to-9, to-f}
 
@@ -41,12 +41,12 @@ module _ (base : ℕ) (two : 1 < base) (most : base ≤ 16) where
       rw (append_assoc, digits-read k (w / base), whole) (digit-read (w / base % base ^ k) (w % base) s small)
 
   -- the digits of a number are read as the number
-  pub back : (k w : ℕ) → w < base ^ k → value base 0 (digits base k w) ≡ Value w
+  pub back : (k w : ℕ) → w < base ^ k → value base 0 (digits base k w) ≡ Some w
   unfolding value
   back k w h =
       ap (value base 0) (sym (append-nil (digits base k w)))
       ∙ digits-read k w []
-      ∙ ap Value (mod-eq_of_lt h)
+      ∙ ap Some (mod-eq_of_lt h)
 
 -- bytes that are there are a part of the list
 pub bytes-there : (s : List ℕ) (at k : ℕ) → at + k ≤ length s → bytes s at k ≡ take k (drop at s)
@@ -65,7 +65,7 @@ stored b at d h =
     ∙ take-append_seam d (drop (at + length d) b)
 
 -- a number's digits, stored and read again, give the number, in any base and at any length that holds it
-pub there_and_back : (base k w : ℕ) (b : List ℕ) (at : ℕ) → 1 < base → base ≤ 16 → w < base ^ k → at + k ≤ length b → value base 0 (bytes (sets b at (digits base k w)) at k) ≡ Value w
+pub there_and_back : (base k w : ℕ) (b : List ℕ) (at : ℕ) → 1 < base → base ≤ 16 → w < base ^ k → at + k ≤ length b → value base 0 (bytes (sets b at (digits base k w)) at k) ≡ Some w
 there_and_back base k w b at two most h room =
     let long : length (digits base k w) ≡ k = digits-length base k w in
     let same : bytes (sets b at (digits base k w)) at (length (digits base k w)) ≡ digits base k w = stored b at (digits base k w) (omega arith) in
@@ -84,9 +84,9 @@ places-hold base (suc n) w h l = go (dec_lt w base) (places-hold base n (w / bas
         ((div-lt_iff_lt-mul {k = base} {x = w} {y = base ^ places base n (w / base)} h).0 i)
 
 -- the two forms in use: a word in hex at a place, and a number in decimal
-pub hex-back : (w : ℕ) (b : List ℕ) (at : ℕ) → w < 18446744073709551616 → at + 16 ≤ length b → hex_at (sets b at (hex w)) at ≡ Value w
+pub hex-back : (w : ℕ) (b : List ℕ) (at : ℕ) → w < 18446744073709551616 → at + 16 ≤ length b → hex_at (sets b at (hex w)) at ≡ Some w
 hex-back w b at h room = there_and_back 16 16 w b at (omega arith) (omega arith) h room
 
-pub decimal-back : (w : ℕ) → w < 10 ^ 20 → value 10 0 (decimal w) ≡ Value w
+pub decimal-back : (w : ℕ) → w < 10 ^ 20 → value 10 0 (decimal w) ≡ Some w
 unfolding decimal
 decimal-back w h = back 10 (omega arith) (omega arith) (places 10 20 w) w (places-hold 10 20 w (omega arith) (omega arith))

@@ -1,30 +1,20 @@
 -- Without leading zeros a number has one digit, or its first digit is another than 0: then it has as many digits as it needs.
+use Rattle.std.proofs.Common.{None, Some}
 use mathlib.Core.Path.{◌≡◌, refl, sym, ap, ◌∙◌}
 use mathlib.Core.Bool.{Bool, true, false, cond}
 use mathlib.Core.List.{List, [], ◌∷◌, ◌++◌}
 use Prim.Native.Nat.{ℕ, zero, suc, ◌+◌, ◌*◌, ◌/◌, ◌%◌, ◌^◌, ◌≤◌, ◌<◌}
 use native.Mathlib.Decide.{dec_lt}
-use native.Mathlib.Nat.{pow-zero, pow-suc, pow-succ', pow-le-pow_right, le-div_iff_mul-le, div-lt_iff_lt-mul, mod-eq_of_lt}
+use native.Mathlib.Nat.{pow-zero, pow-suc, pow-succ', le-div_iff_mul-le, div-lt_iff_lt-mul, mod-eq_of_lt}
 use native.Mathlib.Omega.{arith}
 use borrow.Author.Tests.{ltb-true, ne_eqb}
 use lib.Dec.{ltb}
 use lib.ListN.{length}
 use Rattle.text.specs.Digits.{digit, digits, digit_of, value, places, decimal}
 use Rattle.text.specs.Words.{begins}
-use Rattle.text.specs.declared.digits.Read.TheVariants.{Value, Nothing}
-use Rattle.text.proofs.Writing.{digit_low, digits-length, places-on, places-end, fewer}
+use Rattle.text.proofs.Writing.{digit_low, digits-length, places-on, places-end, fewer, places_is}
 use Rattle.text.proofs.Back.{places-hold}
 use Rattle.text.proofs.Forth.{digit-forth, power-positive, first-digit, forth, value-below}
-
--- a number between two powers has as many digits as the upper one says
-pub places_is : (base k n w : ℕ) → 1 < base → k ≤ n → base ^ k ≤ w → w < base ^ suc k → places base n w ≡ suc k
-places_is base zero n w h l low high = let q : base ^ 1 ≡ base = rw (pow-suc, pow-zero) (omega arith) in places-end base n w (omega arith)
-places_is base (suc k) zero w h l low high = absurd (omega arith)
-places_is base (suc k) (suc n) w h l low high =
-    let p : base ^ 1 ≤ base ^ suc k = pow-le-pow_right {n = base} (omega arith) {i = 1} {j = suc k} (omega arith) in
-    let q : base ^ 1 ≡ base = rw (pow-suc, pow-zero) (omega arith) in
-    let lower : base ^ k ≤ w / base = (le-div_iff_mul-le {k = base} {x = base ^ k} {y = w} (omega arith)).1 (rw (pow-suc base k) at low) in
-    places-on base n w (omega arith) ∙ ap suc (places_is base k n (w / base) h (omega arith) lower (fewer base (suc k) w (omega arith) high))
 
 -- a number has one digit, or it is at least the power of one less than it has
 pub places-low : (base n w : ℕ) → 1 < base → (k : ℕ) × (places base n w ≡ suc k) × (0 < k → base ^ k ≤ w)
@@ -51,11 +41,11 @@ positive zero f = absurd (f refl)
 positive (suc n) f = omega arith
 
 -- a first digit other than 0 makes the number as large as its place
-large : (b w : ℕ) (s : List ℕ) → (b ≡ 48 → ⊥) → value 10 0 (b ∷ s) ≡ Value w → 10 ^ length s ≤ w
+large : (b w : ℕ) (s : List ℕ) → (b ≡ 48 → ⊥) → value 10 0 (b ∷ s) ≡ Some w → 10 ^ length s ≤ w
 unfolding value
 large b w s z e = go (ltb (digit_of b) 10) refl e
   where
-    go : (t : Bool) → ltb (digit_of b) 10 ≡ t → cond t (value 10 (0 * 10 + digit_of b) s) Nothing ≡ Value w → 10 ^ length s ≤ w
+    go : (t : Bool) → ltb (digit_of b) 10 ≡ t → cond t (value 10 (0 * 10 + digit_of b) s) None ≡ Some w → 10 ^ length s ≤ w
     go true h f =
         let q : w / 10 ^ length s ≡ 0 * 10 + digit_of b = (forth 10 (omega arith) (omega arith) s (0 * 10 + digit_of b) w f).1 in
         let d : digit (digit_of b) ≡ b = digit-forth b (omega (arith, ltb-true (digit_of b) 10 h)) in
@@ -65,7 +55,7 @@ large b w s z e = go (ltb (digit_of b) 10) refl e
     go false h f = let c : ◌≡◌ {A = ℕ} 0 1 = cc in absurd (omega arith)
 
 -- digits without leading zeros are the number's own
-pub decimal-forth : (b w : ℕ) (s : List ℕ) → length s < 20 → (0 < length s → b ≡ 48 → ⊥) → value 10 0 (b ∷ s) ≡ Value w → b ∷ s ≡ decimal w
+pub decimal-forth : (b w : ℕ) (s : List ℕ) → length s < 20 → (0 < length s → b ≡ 48 → ⊥) → value 10 0 (b ∷ s) ≡ Some w → b ∷ s ≡ decimal w
 unfolding decimal
 decimal-forth b w [] h z e =
     let small : w < 10 ^ 1 = value-below 10 (omega arith) (omega arith) (b ∷ []) w e in

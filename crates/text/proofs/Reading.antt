@@ -1,4 +1,5 @@
 -- Digits are read from the first to the last; after i of them the number read so far is below base ^ i.
+use Rattle.std.proofs.Common.{None, Option, Some}
 use mathlib.Core.Path.{◌≡◌, refl, ◌∙◌}
 use mathlib.Core.Bool.{Bool, true, false, cond, ◌&&◌}
 use mathlib.Core.List.{List}
@@ -12,8 +13,6 @@ use lib.Dec.{ltb}
 use lib.ListN.{get_or}
 use Rattle.text.specs.Digits.{digit_of, value}
 use Rattle.text.specs.Words.{bytes}
-use Rattle.text.specs.declared.digits.Read.{Read}
-use Rattle.text.specs.declared.digits.Read.TheVariants.{Value, Nothing}
 
 -- the five runs of bytes
 module _ (b : ℕ) where
@@ -38,12 +37,12 @@ module _ (b : ℕ) where
   above-f k = rw (le-ltb b 48 (omega arith), le-ltb b 58 (omega arith), le-ltb b 97 (omega arith), le-ltb b 103 k)
 
 -- what is left to read after i of count digits
-unfoldable left : List ℕ → ℕ → ℕ → ℕ → ℕ → ℕ → Read
+unfoldable left : List ℕ → ℕ → ℕ → ℕ → ℕ → ℕ → Option ℕ
 left s at base count i v = value base v (bytes s (at + i) (count - i))
 
 -- what is left to read where `all` tells whether the i bytes read are digits
-pub left_by : List ℕ → ℕ → ℕ → ℕ → ℕ → Bool → ℕ → Read
-left_by s at base count i all v = cond all (left s at base count i v) Nothing
+pub left_by : List ℕ → ℕ → ℕ → ℕ → ℕ → Bool → ℕ → Option ℕ
+left_by s at base count i all v = cond all (left s at base count i v) None
 
 pub read-begun : (s : List ℕ) (at base count : ℕ) → left_by s at base count 0 true 0 ≡ value base 0 (bytes s at count)
 unfolding left_by left
@@ -51,7 +50,7 @@ read-begun s at base count = rw (add-zero, sub-zero)
 
 -- one digit d read
 module _ (s : List ℕ) (at base count i v d : ℕ) (h : i < count) (e : d ≡ digit_of (get_or s (at + i) 0)) where
-  one-read : left s at base count i v ≡ cond (ltb d base) (left s at base count (i + 1) (v * base + d)) Nothing
+  one-read : left s at base count i v ≡ cond (ltb d base) (left s at base count (i + 1) (v * base + d)) None
   unfolding left value bytes
   one-read =
       let q : count - i ≡ suc (count - (i + 1)) = omega arith in
@@ -62,20 +61,20 @@ module _ (s : List ℕ) (at base count i v d : ℕ) (h : i < count) (e : d ≡ d
   read-on false = refl
   read-on true = go (dec_lt d base)
     where
-      go : Dec (d < base) → left s at base count i v ≡ cond (ltb d base) (left s at base count (i + 1) (v * base + d % base)) Nothing
+      go : Dec (d < base) → left s at base count i v ≡ cond (ltb d base) (left s at base count (i + 1) (v * base + d % base)) None
       go (yes l) = rw (one-read, lt-ltb d base l, mod-eq_of_lt l)
       go (no l) = rw (one-read, le-ltb d base (omega arith))
 
 module _ (s : List ℕ) (at base count i : ℕ) (all : Bool) (v : ℕ) (h : count ≤ i) where
-  all_read : left s at base count i v ≡ Value v
+  all_read : left s at base count i v ≡ Some v
   unfolding left value bytes
   all_read = let q : count - i ≡ 0 = omega arith in rw q
 
-  pub read-end : all ≡ true → left_by s at base count i all v ≡ Value v
+  pub read-end : all ≡ true → left_by s at base count i all v ≡ Some v
   unfolding left_by
   read-end e = rw (e, all_read)
 
-  pub read_none : all ≡ false → left_by s at base count i all v ≡ Nothing
+  pub read_none : all ≡ false → left_by s at base count i all v ≡ None
   unfolding left_by
   read_none e = rw e
 

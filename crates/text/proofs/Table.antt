@@ -8,7 +8,7 @@ use native.Mathlib.Decide.{dec_lt}
 use native.Mathlib.Omega.{arith}
 use borrow.Author.Tests.{lt-ltb, le-ltb}
 use lib.Dec.{ltb}
-use lib.ListN.{length, set, get_or, replicate, get_or-replicate}
+use lib.ListN.{length, set, get_or, replicate, get_or-replicate, length-set}
 use lib.Seq.{get_or-set_same, get_or-set_other}
 use Rattle.text.specs.Digits.{digit, digit_of, IsTable}
 use Rattle.text.proofs.Reading.{below-0, to-9, below-a, to-f, above-f}
@@ -66,13 +66,19 @@ module _ (t : List ℕ) (d : ℕ) (long : length t ≡ 256) (small : d < 16) (f 
       go (no l) (yes m) = others b h (λ e. omega arith)
       go (no l) (no m) = own b (omega arith)
 
-pub all-filled : (t : List ℕ) (d : ℕ) → 16 ≤ d → Filled t d → IsTable t
+pub all-filled : (t : List ℕ) → Filled t 16 → IsTable t
 unfolding IsTable Filled
-all-filled t d h f b l = f b l ∙ go (dec_lt (digit_of b) d)
+all-filled t f b l = f b l ∙ go (dec_lt (digit_of b) 16)
   where
-    go : Dec (digit_of b < d) → cond (ltb (digit_of b) d) (digit_of b) 16 ≡ digit_of b
-    go (yes m) = rw (lt-ltb (digit_of b) d m)
-    go (no m) = rw (le-ltb (digit_of b) d (omega arith)) (omega (arith, at-most-16 b))
+    go : Dec (digit_of b < 16) → cond (ltb (digit_of b) 16) (digit_of b) 16 ≡ digit_of b
+    go (yes m) = rw (lt-ltb (digit_of b) 16 m)
+    go (no m) = rw (le-ltb (digit_of b) 16 (omega arith)) (omega (arith, at-most-16 b))
+
+-- a table is filled digit by digit
+pub one_filled : (t : List ℕ) (b d : ℕ) → b ≡ digit d → length t ≡ 256 → d < 16 → Filled t d → Filled (set t b d) (d + 1) × (length (set t b d) ≡ 256)
+one_filled t b d e long small f = rw e (one-filled t d long small f, length-set t (digit d) d ∙ long)
+
+pub ruleset filling = (none_filled, one_filled, all-filled)
 
 -- the digit of a byte that is looked up
 pub looked-up : (t : List ℕ) (b : ℕ) → IsTable t → b < 256 → get_or t b 0 ≡ digit_of b

@@ -1,4 +1,5 @@
 -- Digits that end within the bytes are all there; others are none.
+use Rattle.std.proofs.Common.{None, Option, Some}
 use mathlib.Core.Path.{◌≡◌, refl}
 use mathlib.Core.Bool.{Bool, true, false, cond, true≢false}
 use mathlib.Core.List.{List}
@@ -10,8 +11,6 @@ use lib.Dec.{ltb}
 use lib.ListN.{length}
 use Rattle.text.specs.Digits.{value}
 use Rattle.text.specs.Words.{bytes}
-use Rattle.text.specs.declared.digits.Read.{Read}
-use Rattle.text.specs.declared.digits.Read.TheVariants.{Value, Nothing}
 use Rattle.text.proofs.Forth.{within}
 
 -- none, or the last one is there
@@ -30,11 +29,11 @@ past at count len h = go (dec_lt 0 count)
     go (yes l) = (l, ltb-false _ _ (rw (lt-ltb 0 count l) at h))
     go (no l) = absurd (true≢false (rw (le-ltb 0 count (omega arith)) at h))
 
-pub none-there : (s : List ℕ) (at base count : ℕ) → 1 < base → base ≤ 16 → is_within at count (length s) ≡ false → value base 0 (bytes s at count) ≡ Nothing
+pub none-there : (s : List ℕ) (at base count : ℕ) → 1 < base → base ≤ 16 → is_within at count (length s) ≡ false → value base 0 (bytes s at count) ≡ None
 none-there s at base count two most h = go (value base 0 (bytes s at count)) refl
   where
-    go : (r : Read) → value base 0 (bytes s at count) ≡ r → r ≡ Nothing
-    go Nothing e = refl
-    go (Value w) e =
+    go : (r : Option ℕ) → value base 0 (bytes s at count) ≡ r → r ≡ None
+    go None e = refl
+    go (Some w) e =
         let p = past at count (length s) h in
         let room : count ≤ length s - at = within base two most s at count 0 w e in absurd (omega arith)

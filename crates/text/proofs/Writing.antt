@@ -1,10 +1,9 @@
 -- Digits are stored from the last to the first; how many a number has is counted by divisions.
-use mathlib.Core.Path.{◌≡◌, refl, ◌∙◌}
+use mathlib.Core.Path.{◌≡◌, refl, sym, ap, ◌∙◌}
 use mathlib.Core.List.{List, [], ◌∷◌}
-use Prim.Native.Nat.{ℕ, zero, suc, ◌+◌, ◌-◌, ◌/◌, ◌%◌, ◌^◌, ◌≤◌, ◌<◌}
-use native.Mathlib.Nat.{mod-lt, pow-succ', mul_comm, div-lt_iff_lt-mul}
-use native.Mathlib.Decide.{dec_lt}
-use native.Mathlib.Numerals.{sub-one}
+use Prim.Native.Nat.{ℕ, zero, suc, ◌+◌, ◌-◌, ◌*◌, ◌/◌, ◌%◌, ◌^◌, ◌≤◌, ◌<◌}
+use native.Mathlib.Nat.{mod-lt, pow-zero, pow-suc, pow-succ', pow-le-pow_right, mul_comm, div-lt_iff_lt-mul, le-div_iff_mul-le}
+use native.Mathlib.Numerals.{sub-one, add-one}
 use native.Mathlib.Omega.{arith}
 use borrow.Author.Tests.{lt-ltb, le-ltb}
 use lib.ListN.{length, set, length-append}
@@ -26,6 +25,8 @@ unfolding digits
 digits-length base zero w = refl
 digits-length base (suc k) w =
     length-append (digits base k (w / base)) (digit (w % base) ∷ []) ∙ omega (arith, digits-length base k (w / base))
+
+pub ruleset lengths = (digits-length)
 
 -- one digit of k stored
 pub digit-on : (b : List ℕ) (at base k w : ℕ) → 0 < k → sets b at (digits base k w) ≡ sets (set b (at + (k - 1)) (digit (w % base))) at (digits base (k - 1) (w / base))
@@ -57,16 +58,21 @@ unfolding places
 places-end base zero w h = refl
 places-end base (suc n) w h = rw (lt-ltb w base h)
 
--- after k divisions of a number below 10 ^ 20 that leave ten or more, there is one more to do
-pub some_left : (k rest : ℕ) → 10 ≤ rest → rest < 10 ^ (20 - k) → k ≤ 20 → k < 20
-some_left k rest h l m = go (dec_lt k 20)
-  where
-    go : Dec (k < 20) → k < 20
-    go (yes t) = t
-    go (no t) = let q : 20 - k ≡ 0 = omega arith in let e : rest < 10 ^ 0 = rw q at l in absurd (omega arith)
+-- a number between two powers has as many digits as the upper one says
+pub places_is : (base k n w : ℕ) → 1 < base → k ≤ n → base ^ k ≤ w → w < base ^ suc k → places base n w ≡ suc k
+places_is base zero n w h l low high = let q : base ^ 1 ≡ base = rw (pow-suc, pow-zero) (omega arith) in places-end base n w (omega arith)
+places_is base (suc k) zero w h l low high = absurd (omega arith)
+places_is base (suc k) (suc n) w h l low high =
+    let p : base ^ 1 ≤ base ^ suc k = pow-le-pow_right {n = base} (omega arith) {i = 1} {j = suc k} (omega arith) in
+    let q : base ^ 1 ≡ base = rw (pow-suc, pow-zero) (omega arith) in
+    let lower : base ^ k ≤ w / base = (le-div_iff_mul-le {k = base} {x = base ^ k} {y = w} (omega arith)).1 (rw (pow-suc base k) at low) in
+    places-on base n w (omega arith) ∙ ap suc (places_is base k n (w / base) h (omega arith) lower (fewer base (suc k) w (omega arith) high))
 
--- one division counted
-pub counted-on : (k rest : ℕ) → k < 20 → 10 ≤ rest → k + places 10 (20 - k) rest ≡ k + 1 + places 10 (20 - (k + 1)) (rest / 10)
-counted-on k rest h l =
-    let q : 20 - k ≡ suc (20 - (k + 1)) = omega arith in
-    let p : places 10 (20 - k) rest ≡ suc (places 10 (20 - (k + 1)) (rest / 10)) = rw q (places-on 10 (20 - (k + 1)) rest l) in omega arith
+-- the library's logarithm of a decimal number is one less than it has digits
+pub decimal_places_is : (k w : ℕ) → 10 ^ k ≤ w → w < 10 * 10 ^ k → k < 20 → k + 1 ≡ places 10 20 w
+decimal_places_is k w low high h = rw add-one (sym (places_is 10 k 20 w (omega arith) (omega arith) low (rw pow-succ' high)))
+
+pub no_places : (w : ℕ) → w ≡ 0 → 1 ≡ places 10 20 w
+no_places w e = sym (places-end 10 20 w (omega arith))
+
+pub ruleset decimal_counts = (decimal_places_is, no_places)

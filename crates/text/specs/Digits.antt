@@ -1,8 +1,6 @@
 -- Digits: a number as bytes in a base from 2 to 16, '0' to '9' and then 'a' to 'f', the highest first.
-use Rattle.std.specs.Prelude.{◌≡◌, cond, List, [], ◌∷◌, ◌++◌, ℕ, zero, suc, ◌+◌, ◌-◌, ◌*◌, ◌/◌, ◌%◌, ◌<◌, ltb, get_or}
+use Rattle.std.specs.Prelude.{◌≡◌, cond, List, [], ◌∷◌, ◌++◌, ℕ, zero, suc, ◌+◌, ◌-◌, ◌*◌, ◌/◌, ◌%◌, ◌<◌, ltb, get_or, None, Option, Some}
 use Rattle.text.specs.Words.{bytes}
-use Rattle.text.specs.declared.digits.Read.{Read}
-use Rattle.text.specs.declared.digits.Read.TheVariants.{Value, Nothing}
 
 -- the byte of a digit
 unfoldable pub digit : ℕ → ℕ
@@ -35,14 +33,14 @@ unfoldable pub IsTable : List ℕ → Type 0
 IsTable t = (b : ℕ) → b < 256 → get_or t b 0 ≡ digit_of b
 
 -- the number that bytes stand for after v: nothing where one of them is no digit of the base
-unfoldable pub value : ℕ → ℕ → List ℕ → Read
-value base v [] = Value v
-value base v (b ∷ s) = cond (ltb (digit_of b) base) (value base (v * base + digit_of b) s) Nothing
+unfoldable pub value : ℕ → ℕ → List ℕ → Option ℕ
+value base v [] = Some v
+value base v (b ∷ s) = cond (ltb (digit_of b) base) (value base (v * base + digit_of b) s) None
 
 -- the 64-bit word in hex at a place
-abbrev pub hex_at : List ℕ → ℕ → Read
+abbrev pub hex_at : List ℕ → ℕ → Option ℕ
 hex_at s at = value 16 0 (bytes s at 16)
 
 -- the number in decimal at a place, by its first count digits; nothing beyond the most of which every number is a 64-bit word
-unfoldable pub decimal_at : List ℕ → ℕ → ℕ → Read
-decimal_at s at count = cond (ltb 19 count) Nothing (value 10 0 (bytes s at count))
+unfoldable pub decimal_at : List ℕ → ℕ → ℕ → Option ℕ
+decimal_at s at count = cond (ltb 19 count) None (value 10 0 (bytes s at count))

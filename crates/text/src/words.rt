@@ -7,20 +7,14 @@ ghost use Rattle.text.specs.Words.{begins};
 pub fn is_below(at: usize, k: usize, len: usize) -> bool
     ensures { result ≡ ltb (at + k) len }
 {
-    if at < len {
-        return k < len - at;
-    }
-    false
+    at < len && k < len - at
 }
 
 // The place n further on, at most the end.
 pub fn after(at: usize, n: usize, len: usize) -> usize
     ensures { result ≡ min (at + n) len }
 {
-    if is_below(at, n, len) {
-        return at + n;
-    }
-    len
+    at.saturating_add(n).min(len)
 }
 
 // The byte k places after `at`; 0 past the end.
@@ -46,33 +40,15 @@ pub fn put_byte(buf: &mut [u8], at: usize, k: usize, b: u8)
 pub fn put_word(buf: &mut [u8], at: usize, word: &[u8])
     ensures { buf.new ≡ sets buf.old at word.now }
 {
-    let mut i = 0;
-    while i < word.len() {
-        put_byte(buf, at, i, word[i]);
-        i += 1;
+    for (i, b) in word.iter().enumerate() {
+        put_byte(buf, at, i, *b);
     }
-}
-
-// Whether the byte k places after `at` is there and is b.
-fn has_byte(s: &[u8], at: usize, k: usize, b: u8) -> bool
-    ensures { result ≡ begins (b ∷ []) (drop (at + k) s.now) }
-{
-    if is_below(at, k, s.len()) {
-        return s[at + k] == b;
-    }
-    false
 }
 
 // Whether a word stands at `at`.
+#[tactic(auto, using(crate::proofs::Matching::begins_at))]
 pub fn has_word(s: &[u8], at: usize, word: &[u8]) -> bool
     ensures { result ≡ begins word.now (drop at s.now) }
 {
-    let mut i = 0;
-    while i < word.len() {
-        if !has_byte(s, at, i, word[i]) {
-            return false;
-        }
-        i += 1;
-    }
-    true
+    s[at.min(s.len())..].starts_with(word)
 }

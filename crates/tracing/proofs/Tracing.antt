@@ -1,7 +1,8 @@
 -- What the two steps leave in the arrays is what the outlines of the definition make there.
+use Rattle.refusals.specs.Refusals.{number}
+use Rattle.std.proofs.Common.{Option, None, Some}
 use mathlib.Core.Path.{◌≡◌, refl, sym, ap, ◌∙◌, fun_ext}
 use mathlib.Core.Bool.{Bool, true, false, cond, ◌&&◌}
-use mathlib.Core.Option.{Option, none, some}
 use mathlib.Core.List.{List, [], ◌∷◌, ◌++◌, map}
 use Prim.Native.Nat.{ℕ, zero, suc, ◌+◌, ◌≤◌, ◌<◌}
 use native.Mathlib.Omega.{arith}
@@ -23,15 +24,13 @@ use Rattle.contours.proofs.Turns.{Ends, trace-end}
 use Rattle.contours.proofs.Amount.{outline-count}
 use Rattle.rows.specs.Rows.{Rows, size, point_code, void, table_row}
 use Rattle.walks.specs.Walks.{corners_of, unclosed_trail}
-use Rattle.starts.specs.declared.Turn.{Turn}
 use Rattle.starts.specs.Starts as S
 use Rattle.starts.specs.Starts.{turn_of, code_of, all_corners, nest_of, nests_from, unclosed_count, sheet_of, answer_of}
 use Rattle.starts.specs.Steps.{blank}
 use Rattle.starts.proofs.Starts.{nest-get, there}
-use Rattle.holes.specs.Holes as H
 use Rattle.holes.specs.Holes.{nest_in, holes_at, contour_row, contour_rows, all_holes, held_from, holed_on}
 use Rattle.tracing.specs.declared.Traced.{Traced}
-use Rattle.tracing.specs.Tracing.{Sheet, sheet, told, corners_in, holes_in, row_in, rows_in, written, answered, traced_all, fits, traced_on}
+use Rattle.tracing.specs.Tracing.{sheet, told, corners_in, holes_in, row_in, rows_in, written, answered, traced_all, fits, traced_on}
 use Rattle.tracing.specs.Parts.{joined, holed, traced_by}
 
 -- ---- corners, and how many contours are open
@@ -81,8 +80,8 @@ keep_same f g (suc m) j h = rw (h j (omega arith), keep_same f g m (suc j) (λ i
 
 parent_is : (c : ℕ) (p : Option ℕ) → eqb (code_of p) (c + 1) ≡ is_parent c p
 unfolding code_of is_parent
-parent_is c none = ne_eqb 0 (c + 1) (λ z. omega arith)
-parent_is c (some p) = go (eqb p c) refl
+parent_is c None = ne_eqb 0 (c + 1) (λ z. omega arith)
+parent_is c (Some p) = go (eqb p c) refl
   where
     go : (b : Bool) → eqb p c ≡ b → eqb (p + 1) (c + 1) ≡ b
     go true e = eq-eqb (p + 1) (c + 1) (omega (arith, eqb-true p c e))
@@ -98,7 +97,7 @@ module _ (t : Rows) (ns : List (List ℕ)) (cs : List Contour) (room : length cs
 
   holes-are : (c : ℕ) → holes_at N c (length cs) 0 ≡ holes_of cs c
   unfolding holes_at holes_of
-  holes-are c = keep_same _ _ (length cs) 0 (λ i l. rw (nest-is i (omega arith), (nest-get t 0 cs i).0) (parent_is c (get_or cs i (contour [] none 0)).parent))
+  holes-are c = keep_same _ _ (length cs) 0 (λ i l. rw (nest-is i (omega arith), (nest-get t 0 cs i).0) (parent_is c (get_or cs i (contour [] None 0)).parent))
 
   module _ (n : ℕ) (q : n ≡ length cs) where
     holes-at : (c : ℕ) → holes_at N c n 0 ≡ holes_of cs c
@@ -174,16 +173,16 @@ module _ (t : Rows) (out : List (List ℕ)) (ks : List (List ℕ)) (hs : List �
   answered-is : size t ≤ max_events → size t ≤ length ns → (a : Answer) → Ends (size t) (λ i ms cs. length cs ≤ i) a → holed ks hs (answer_of t out ns a) ≡ answered (size t) (table_row t) out ks hs a
   unfolding answer_of answered
   answered-is h r (done ms cs) l = holed-is ms cs 0 0 (omega arith) (omega arith)
-  answered-is h r (halted number i ms cs) l = holed-is ms cs number i (omega (arith, l.1, l.2)) (omega (arith, l.1, l.2))
+  answered-is h r (halted reason i ms cs) l = holed-is ms cs (number reason) i (omega (arith, l.1, l.2)) (omega (arith, l.1, l.2))
 
   nothing_is : (ms : List ℕ) → holed ks hs (S.sheet ms out ns (turn_of 0 0 0 0 0)) ≡ sheet ms out ks hs (told 0 0 0 0 0 0)
   unfolding holed joined holed_on held_from contour_rows all_holes
   nothing_is ms = refl
 
   -- the two steps, with places enough for what is kept between them of a table within the limit
-  traced-is : (ms : List ℕ) → (size t ≤ max_events → size t ≤ length ns) → traced_by t ms out ks hs ns ≡ traced_on t ms out ks hs
+  pub traced_is : (ms : List ℕ) → (size t ≤ max_events → size t ≤ length ns) → traced_by t ms out ks hs ns ≡ traced_on t ms out ks hs
   unfolding traced_by traced_on traced_all S.traced_on S.fits fits
-  traced-is ms r = go (leb (size t) max_events) (eqb (length ms) (size t)) refl
+  traced_is ms r = go (leb (size t) max_events) (eqb (length ms) (size t)) refl
     where
       A : Answer
       A = trace (same at_binary64) (size t) (table_row t)
@@ -195,18 +194,6 @@ module _ (t : Rows) (out : List (List ℕ)) (ks : List (List ℕ)) (hs : List �
           rw (le-leb (size t) (length ns) (r l)) (answered-is l (r l) A few)
       go true false e = nothing_is ms
       go false b e = nothing_is ms
-
--- ---- the functions
-
-pub joined_is : (t : Rows) (ms ms' : List ℕ) (out out' : List (List ℕ)) (ks ks' : List (List ℕ)) (hs hs' : List ℕ) (ns ns' : List (List ℕ)) (s : Turn) (e : ℕ)
-    → S.sheet ms' out' ns' s ≡ S.traced_on t ms out ns → H.holding ks' hs' e ≡ holed_on ns' s.count ks hs
-    → sheet ms' out' ks' hs' (told s.count s.end e s.unclosed s.stop s.place) ≡ traced_by t ms out ks hs ns
-unfolding traced_by holed joined
-joined_is t ms ms' out out' ks ks' hs hs' ns ns' s e f g = ap (joined (S.sheet ms' out' ns' s)) g ∙ ap (holed ks hs) f
-
-pub whole : (t : Rows) (ms : List ℕ) (out : List (List ℕ)) (ks : List (List ℕ)) (hs : List ℕ) (ns : List (List ℕ)) (w : Sheet) → (size t ≤ max_events → size t ≤ length ns)
-    → w ≡ traced_by t ms out ks hs ns → w ≡ traced_on t ms out ks hs
-whole t ms out ks hs ns w r e = e ∙ traced-is t out ks hs ns ms r
 
 -- ---- for a caller
 

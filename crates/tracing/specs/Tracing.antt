@@ -1,5 +1,6 @@
 -- The contours of a table (`contours.specs.Contours`, `contours.specs.Outline`) as the lent arrays hold them: the corners of one contour after those
 -- of another, a row for each contour, the holes of one after those of another. What is beyond an array is not stored; all other places stay as lent.
+use Rattle.refusals.specs.Refusals.{number}
 use Rattle.std.specs.Prelude.{Bool, cond, ◌&&◌, List, [], ◌∷◌, ◌++◌, map, ℕ, ◌+◌, length, eqb, leb}
 use Rattle.std.proofs.lemmas.List.Edits.{sets}
 use Rattle.numbers.specs.declared.Point.{Point}
@@ -57,7 +58,7 @@ written corners contours holes ms os stop place =
 module _ (n : ℕ) (row : ℕ → Row Point) (corners : List (List ℕ)) (contours : List (List ℕ)) (holes : List ℕ) where
   unfoldable pub answered : Answer → Sheet
   answered (done ms cs) = written corners contours holes ms (outlines (same at_binary64) n row cs) 0 0
-  answered (halted number i ms cs) = written corners contours holes ms (outlines (same at_binary64) n row cs) number i
+  answered (halted reason i ms cs) = written corners contours holes ms (outlines (same at_binary64) n row cs) (number reason) i
 
   unfoldable pub traced_all : Sheet
   traced_all = answered (trace (same at_binary64) n row)

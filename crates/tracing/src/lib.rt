@@ -3,7 +3,7 @@
 #![tactic(auto)]
 
 ghost use Rattle.std.specs.Prelude.{◌≡◌, ◌≤◌, length};
-ghost use Rattle.checks.specs.Checks.{few_events};
+ghost use Rattle.checks.specs.Checks.{max_events};
 ghost use Rattle.rows.specs.Rows.{lent};
 ghost use Rattle.tracing.specs.Tracing.{sheet, traced_on};
 ghost use Rattle.tracing.specs.Parts.{traced_by};
@@ -26,6 +26,7 @@ pub struct Traced {
 }
 
 // With places for what is kept of each contour until its holes are known.
+#[tactic(auto, unfolding(crate::specs::Parts::traced_by, crate::specs::Parts::holed, crate::specs::Parts::joined))]
 fn trace_by(
     rows: &[[u32; 4]],
     at: &[[u64; 2]],
@@ -49,7 +50,9 @@ fn trace_by(
     }
 }
 
-fn trace_few(
+// With N of them, as many as a table within the limit has rows.
+#[tactic(auto, using(crate::proofs::Tracing::traced_is))]
+fn trace_in<const N: usize>(
     rows: &[[u32; 4]],
     at: &[[u64; 2]],
     walked: &mut [u32],
@@ -57,26 +60,11 @@ fn trace_few(
     contours: &mut [[u32; 6]],
     holes: &mut [u32],
 ) -> Traced
-    requires { length rows.now ≤ few_events }
+    requires few { N ≤ max_events }
+    requires enough { length rows.now ≤ max_events → length rows.now ≤ N }
     ensures { sheet walked.new corners.new contours.new holes.new result ≡ traced_on (lent rows.now at.now) walked.old corners.old contours.old holes.old }
 {
-    let nest = [0u32; 4];
-    let mut nests = [nest; FEW];
-    trace_by(rows, at, walked, corners, contours, holes, &mut nests)
-}
-
-fn trace_many(
-    rows: &[[u32; 4]],
-    at: &[[u64; 2]],
-    walked: &mut [u32],
-    corners: &mut [[u64; 2]],
-    contours: &mut [[u32; 6]],
-    holes: &mut [u32],
-) -> Traced
-    ensures { sheet walked.new corners.new contours.new holes.new result ≡ traced_on (lent rows.now at.now) walked.old corners.old contours.old holes.old }
-{
-    let nest = [0u32; 4];
-    let mut nests = [nest; MAX_EVENTS];
+    let mut nests = [[0u32; 4]; N];
     trace_by(rows, at, walked, corners, contours, holes, &mut nests)
 }
 
@@ -92,7 +80,7 @@ pub fn trace(
     ensures { sheet walked.new corners.new contours.new holes.new result ≡ traced_on (lent rows.now at.now) walked.old corners.old contours.old holes.old }
 {
     if rows.len() <= FEW {
-        return trace_few(rows, at, walked, corners, contours, holes);
+        return trace_in::<FEW>(rows, at, walked, corners, contours, holes);
     }
-    trace_many(rows, at, walked, corners, contours, holes)
+    trace_in::<MAX_EVENTS>(rows, at, walked, corners, contours, holes)
 }

@@ -1,5 +1,6 @@
 -- Where points lie one after the other, each part is shown as it was laid; a part is only ever points that were lent; and its corners are read one by
 -- one until there is none.
+use Rattle.std.proofs.Common.{None, Some}
 use mathlib.Core.Path.{◌≡◌, refl, ap, ◌∙◌}
 use mathlib.Core.Bool.{Bool, true, false, cond}
 use mathlib.Core.List.{List, [], ◌++◌}
@@ -10,7 +11,6 @@ use lib.Dec.{leb, ltb}
 use lib.ListN.{length, get_or, take, drop, length-append}
 use lib.Seq.{take-append_seam, drop-append_seam, get_or-take, get_or-drop}
 use Rattle.numbers.specs.declared.Point.{Point}
-use Rattle.view.specs.declared.Corner.TheVariants.{At, Nothing}
 use Rattle.view.specs.View.{part_of, point_at, corner_at}
 
 -- the lengths of three that lie one after the other
@@ -51,27 +51,27 @@ module _ (points : List (List ℕ)) (first end : ℕ) where
 -- ---- corners by number
 
 module _ (points : List (List ℕ)) (i : ℕ) where
-  pub corner-within : i < length points → corner_at points i ≡ At (point_at points i)
+  pub corner-within : i < length points → corner_at points i ≡ Some (point_at points i)
   unfolding corner_at
   corner-within h = rw (lt-ltb i (length points) h)
 
-  pub corner-beyond : length points ≤ i → corner_at points i ≡ Nothing
+  pub corner-beyond : length points ≤ i → corner_at points i ≡ None
   unfolding corner_at
   corner-beyond h = rw (le-ltb i (length points) h)
 
   -- what an answer tells of the place
-  pub found_within : (p : Point) → corner_at points i ≡ At p → (i < length points) × (point_at points i ≡ p)
+  pub found_within : (p : Point) → corner_at points i ≡ Some p → (i < length points) × (point_at points i ≡ p)
   unfolding corner_at
   found_within p = go (ltb i (length points)) refl
     where
-      go : (b : Bool) → ltb i (length points) ≡ b → cond b (At (point_at points i)) Nothing ≡ At p → (i < length points) × (point_at points i ≡ p)
+      go : (b : Bool) → ltb i (length points) ≡ b → cond b (Some (point_at points i)) None ≡ Some p → (i < length points) × (point_at points i ≡ p)
       go true e f = (ltb-true i (length points) e, let z : point_at points i ≡ p = cc in z)
       go false e f = let z : ◌≡◌ {A = ℕ} 0 1 = cc in absurd (omega arith)
 
-  pub none-beyond : corner_at points i ≡ Nothing → length points ≤ i
+  pub none-beyond : corner_at points i ≡ None → length points ≤ i
   unfolding corner_at
   none-beyond = go (ltb i (length points)) refl
     where
-      go : (b : Bool) → ltb i (length points) ≡ b → cond b (At (point_at points i)) Nothing ≡ Nothing → length points ≤ i
+      go : (b : Bool) → ltb i (length points) ≡ b → cond b (Some (point_at points i)) None ≡ None → length points ≤ i
       go true e f = let z : ◌≡◌ {A = ℕ} 0 1 = cc in absurd (omega arith)
       go false e f = ltb-false i (length points) e

@@ -6,12 +6,6 @@ ghost use Rattle.view.specs.View.{corner_at, part_of};
 
 use numbers::Point;
 
-#[derive(Clone, Copy)]
-pub enum Corner {
-    At(Point),
-    Nothing,
-}
-
 // Holds a contour's part.
 #[derive(Clone, Copy)]
 pub struct ContourView<'a> {
@@ -19,16 +13,11 @@ pub struct ContourView<'a> {
 }
 
 // The part from `first` up to `end`; one that is not within the points is shown empty.
+#[tactic(auto, unfolding(crate::specs::View::part_of))]
 pub fn part_of(points: &[[u64; 2]], first: usize, end: usize) -> &[[u64; 2]]
     ensures { result.now ≡ part_of points.now first end }
 {
-    if end < first {
-        return &points[0..0];
-    }
-    if points.len() < end {
-        return &points[0..0];
-    }
-    &points[first..end]
+    points.get(first..end).unwrap_or(&points[..0])
 }
 
 pub fn count_of(points: &[[u64; 2]]) -> usize
@@ -38,15 +27,15 @@ pub fn count_of(points: &[[u64; 2]]) -> usize
 }
 
 // Beyond the part there is no corner.
-pub fn corner_at(points: &[[u64; 2]], i: usize) -> Corner
+pub fn corner_at(points: &[[u64; 2]], i: usize) -> Option<Point>
     ensures { result ≡ corner_at points.now i }
 {
     if i < points.len() {
         let p = points[i];
         let q = Point { x: p[0], y: p[1] };
-        return Corner::At(q);
+        return Some(q);
     }
-    Corner::Nothing
+    None
 }
 
 // Of a part as `part_of` gives it.
@@ -62,7 +51,7 @@ pub fn contour_len<'a>(v: ContourView<'a>) -> usize
     count_of(v.points)
 }
 
-pub fn read_corner<'a>(v: ContourView<'a>, i: usize) -> Corner
+pub fn read_corner<'a>(v: ContourView<'a>, i: usize) -> Option<Point>
     ensures { result ≡ corner_at v.entry.points.now i }
 {
     corner_at(v.points, i)
@@ -75,7 +64,7 @@ pub fn count_shown(points: &[[u64; 2]]) -> usize
     contour_len(contour_view(points))
 }
 
-pub fn corner_shown(points: &[[u64; 2]], i: usize) -> Corner
+pub fn corner_shown(points: &[[u64; 2]], i: usize) -> Option<Point>
     ensures { result ≡ corner_at points.now i }
 {
     read_corner(contour_view(points), i)

@@ -1,4 +1,5 @@
 -- The scan over all waiting events: what it finds waits, the one that leads every other is found, and a rival counts wherever it stands.
+use Rattle.std.proofs.Common.{None, Option, Some}
 use mathlib.Core.Path.{◌≡◌, refl, sym, ap, ◌∙◌}
 use mathlib.Core.Logic.{◌≢◌}
 use mathlib.Core.Bool.{Bool, true, false, not, cond, ◌&&◌, ◌||◌, or-true}
@@ -6,8 +7,6 @@ use Prim.Native.Nat.{ℕ, zero, suc, ◌<◌}
 use native.Mathlib.Omega.{arith}
 use lib.Dec.{eqb}
 use borrow.Author.Tests.{eqb-true, eqb-false, ne_eqb, not-true}
-use Rattle.events.specs.declared.Link.{Link}
-use Rattle.events.specs.declared.Link.TheVariants.{None, To}
 use Rattle.waiting.specs.Waiting.{choose, first, rivals, rivalled}
 use Rattle.waiting.specs.Queue.{leads}
 use Rattle.waiting.proofs.Leading.{leads-lower, leads-higher}
@@ -27,7 +26,7 @@ pub record Found (waits : ℕ → Bool) (n r : ℕ) : Type 0 where
 module _ (waits : ℕ → Bool) (before : ℕ → ℕ → Bool) where
   -- ---- what the scan finds
 
-  pub found : (n c : ℕ) → first waits before n ≡ To c → Found waits n c
+  pub found : (n c : ℕ) → first waits before n ≡ Some c → Found waits n c
   unfolding first choose
   found zero c e = let z : ◌≡◌ {A = ℕ} 0 1 = cc in absurd (omega arith)
   found (suc n) c e = go (waits n) refl (first waits before n) (found n) e
@@ -38,12 +37,12 @@ module _ (waits : ℕ → Bool) (before : ℕ → ℕ → Bool) where
       last : waits n ≡ true → n ≡ c → Found waits (suc n) c
       last w i = record { waiting = rw (← i) w; below = omega arith }
 
-      go : (x : Bool) → waits n ≡ x → (o : Link) → ((k : ℕ) → o ≡ To k → Found waits n k) → cond x (choose before o n) o ≡ To c → Found waits (suc n) c
+      go : (x : Bool) → waits n ≡ x → (o : Option ℕ) → ((k : ℕ) → o ≡ Some k → Found waits n k) → cond x (choose before o n) o ≡ Some c → Found waits (suc n) c
       go false p o ih q = later (ih c q)
       go true p None ih q = last p cc
-      go true p (To k) ih q = pick (before k n) q
+      go true p (Some k) ih q = pick (before k n) q
         where
-          pick : (y : Bool) → cond y (To k) (To n) ≡ To c → Found waits (suc n) c
+          pick : (y : Bool) → cond y (Some k) (Some n) ≡ Some c → Found waits (suc n) c
           pick true t = later (ih c t)
           pick false t = last p cc
 
@@ -52,11 +51,11 @@ module _ (waits : ℕ → Bool) (before : ℕ → ℕ → Bool) where
   found_none zero e r l = absurd (omega arith)
   found_none (suc n) e r l = go (waits n) refl (first waits before n) (found_none n) e
     where
-      go : (x : Bool) → waits n ≡ x → (o : Link) → (o ≡ None → (r : ℕ) → r < n → waits r ≡ false) → cond x (choose before o n) o ≡ None → waits r ≡ false
+      go : (x : Bool) → waits n ≡ x → (o : Option ℕ) → (o ≡ None → (r : ℕ) → r < n → waits r ≡ false) → cond x (choose before o n) o ≡ None → waits r ≡ false
       go true p None ih q = cc
-      go true p (To k) ih q = pick (before k n) q
+      go true p (Some k) ih q = pick (before k n) q
         where
-          pick : (y : Bool) → cond y (To k) (To n) ≡ None → waits r ≡ false
+          pick : (y : Bool) → cond y (Some k) (Some n) ≡ None → waits r ≡ false
           pick true t = cc
           pick false t = cc
       go false p o ih q = below_suc (λ x. waits x ≡ false) n r l p (ih q r)
@@ -67,20 +66,20 @@ module _ (waits : ℕ → Bool) (before : ℕ → ℕ → Bool) where
   none_found (suc n) h = rw (h n (omega arith)) (none_found n (λ r l. h r (omega arith)))
 
   -- the one that leads every other below n
-  pub leader-found : (c n : ℕ) → ((r : ℕ) → r < n → waits r ≡ true → r ≢ c → leads before c r ≡ true) → Found waits n c → first waits before n ≡ To c
+  pub leader-found : (c n : ℕ) → ((r : ℕ) → r < n → waits r ≡ true → r ≢ c → leads before c r ≡ true) → Found waits n c → first waits before n ≡ Some c
   unfolding first choose
   leader-found c zero h f = let l = f.below in absurd (omega arith)
   leader-found c (suc n) h f = go (eqb n c) refl (λ i. leader-found c n (λ r j. h r (omega arith)) (record { waiting = f.waiting; below = i }))
     where
-      last : (o : Link) → ((m : ℕ) → o ≡ To m → Found waits n m) → n ≡ c → choose before o n ≡ To c
-      last None g i = ap To i
-      last (To m) g i =
+      last : (o : Option ℕ) → ((m : ℕ) → o ≡ Some m → Found waits n m) → n ≡ c → choose before o n ≡ Some c
+      last None g i = ap Some i
+      last (Some m) g i =
           let k = g m refl in
           let l = k.below in
           let a = h m (omega arith) k.waiting (λ e. omega arith) in
           rw (i, not-true (before m c) (sym (leads-higher before c m (omega arith)) ∙ a))
 
-      go : (x : Bool) → eqb n c ≡ x → (c < n → first waits before n ≡ To c) → cond (waits n) (choose before (first waits before n) n) (first waits before n) ≡ To c
+      go : (x : Bool) → eqb n c ≡ x → (c < n → first waits before n ≡ Some c) → cond (waits n) (choose before (first waits before n) n) (first waits before n) ≡ Some c
       go true q ih =
           let i : n ≡ c = eqb-true n c q in
           rw (ap waits i ∙ f.waiting) (last (first waits before n) (found n) i)
@@ -89,7 +88,7 @@ module _ (waits : ℕ → Bool) (before : ℕ → ℕ → Bool) where
           let l = f.below in
           rw (ih (omega arith)) (stay (waits n) refl)
         where
-          stay : (x : Bool) → waits n ≡ x → cond x (cond (before c n) (To c) (To n)) (To c) ≡ To c
+          stay : (x : Bool) → waits n ≡ x → cond x (cond (before c n) (Some c) (Some n)) (Some c) ≡ Some c
           stay true p =
               let d = eqb-false n c q in
               let l = f.below in

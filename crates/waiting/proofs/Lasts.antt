@@ -1,4 +1,5 @@
 -- The last member of a queue leads all in front of it, and the last but one is the last of those.
+use Rattle.std.proofs.Common.{None, Some}
 use mathlib.Core.Path.{◌≡◌, refl, sym, ap, ◌∙◌}
 use mathlib.Core.Bool.{Bool, true, false, ◌||◌, or-true, or-false, true≢false}
 use mathlib.Core.List.{List, [], ◌∷◌, ◌++◌}
@@ -8,7 +9,6 @@ use native.Mathlib.Omega.{arith}
 use lib.Dec.{eqb}
 use lib.ListN.{length, take}
 use lib.Seq.{length-take-le}
-use Rattle.events.specs.declared.Link.TheVariants.{None, To}
 use Rattle.status.specs.Status.{member, below}
 use Rattle.status.proofs.Members.{member-there, member-read}
 use Rattle.waiting.specs.Queue.{leads, has, Ordered}
@@ -34,7 +34,7 @@ front l = take (length l - 1) l
 front-cons : (x y : ℕ) (l : List ℕ) → front (x ∷ y ∷ l) ≡ x ∷ front (y ∷ l)
 front-cons x y l = simp sub-one
 
-front-last : (l : List ℕ) (e : ℕ) → below l (length l) ≡ To e → l ≡ front l ++ (e ∷ [])
+front-last : (l : List ℕ) (e : ℕ) → below l (length l) ≡ Some e → l ≡ front l ++ (e ∷ [])
 unfolding below member
 front-last [] e h = let z : ◌≡◌ {A = ℕ} 0 1 = cc in absurd (omega arith)
 front-last (x ∷ []) e h = let i : x ≡ e = cc in rw i
@@ -62,7 +62,7 @@ pub record Ends (before : ℕ → ℕ → Bool) (l : List ℕ) (e : ℕ) : Type 
   pub ordered-front : Ordered before (front l)
   pub leads-front : (r : ℕ) → has (front l) r ≡ true → leads before e r ≡ true
 
-pub ends : (before : ℕ → ℕ → Bool) (l : List ℕ) (e : ℕ) → Ordered before l → below l (length l) ≡ To e → Ends before l e
+pub ends : (before : ℕ → ℕ → Bool) (l : List ℕ) (e : ℕ) → Ordered before l → below l (length l) ≡ Some e → Ends before l e
 unfolding has
 ends before l e o h =
     let split = front-last l e h in

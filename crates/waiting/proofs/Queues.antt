@@ -1,4 +1,5 @@
 -- The queue gives what the scan over all waiting events would.
+use Rattle.std.proofs.Common.{None, Option, Some}
 use mathlib.Core.Path.{◌≡◌, refl, sym, ap, ap₂, ◌∙◌}
 use mathlib.Core.Logic.{◌≢◌}
 use mathlib.Core.Bool.{Bool, true, false, ◌&&◌, ◌||◌, and-false, or-true, or-false, true≢false}
@@ -8,8 +9,6 @@ use native.Mathlib.Omega.{arith}
 use lib.Dec.{eqb, ltb}
 use lib.ListN.{length, take}
 use borrow.Author.Tests.{ltb-true, lt-ltb, le-ltb, eqb-true, eqb-false, ne_eqb, eq-eqb}
-use Rattle.events.specs.declared.Link.{Link}
-use Rattle.events.specs.declared.Link.TheVariants.{None, To}
 use Rattle.status.specs.Status.{below}
 use Rattle.waiting.specs.Waiting.{first, rivalled}
 use Rattle.waiting.specs.Queue.{ties_with, has, Ordered, Queued}
@@ -38,7 +37,7 @@ module _ {waits : ℕ → Bool} {before : ℕ → ℕ → Bool} {n : ℕ} {l : L
 
   -- ---- the next one
 
-  module _ (e : ℕ) (last : below l (length l) ≡ To e) where
+  module _ (e : ℕ) (last : below l (length l) ≡ Some e) where
     ending : Ends before l e
     ending = ends before l e Q.ordered last
 
@@ -54,7 +53,7 @@ module _ {waits : ℕ → Bool} {before : ℕ → ℕ → Bool} {n : ℕ} {l : L
     front-has : (r : ℕ) → has (front l) r ≡ true → has l r ≡ true
     front-has r h = ending.has_last r ∙ rw h
 
-    next-to : first waits before n ≡ To e
+    next-to : first waits before n ≡ Some e
     next-to =
         leader-found waits before e n (λ r h w d. ending.leads-front r (in-front r h w d))
         (record { waiting = is-waiting e last_has; below = is_below_lem e last_has })
@@ -62,11 +61,11 @@ module _ {waits : ℕ → Bool} {before : ℕ → ℕ → Bool} {n : ℕ} {l : L
   pub next-is : below l (length l) ≡ first waits before n
   next-is = go (below l (length l)) refl
     where
-      go : (o : Link) → below l (length l) ≡ o → o ≡ first waits before n
+      go : (o : Option ℕ) → below l (length l) ≡ o → o ≡ first waits before n
       go None h = sym (none_found waits before n (λ r k. sym (rw (lt-ltb r n k) at (Q.members r)) ∙ none_last l h r))
-      go (To e) h = sym (next-to e h)
+      go (Some e) h = sym (next-to e h)
 
-  module _ (O : Orders before n) (e : ℕ) (last : below l (length l) ≡ To e) where
+  module _ (O : Orders before n) (e : ℕ) (last : below l (length l) ≡ Some e) where
     -- e itself does not stand in front
     gone : has (front l) e ≡ false
     gone = unless _ (λ h. true≢false (sym ((ending e last).leads-front e h) ∙ self before O e (is_below_lem e (last_has e last))))
@@ -76,7 +75,7 @@ module _ {waits : ℕ → Bool} {before : ℕ → ℕ → Bool} {n : ℕ} {l : L
     unrivalled : below (front l) (length (front l)) ≡ None → rivalled waits before e n ≡ false
     unrivalled h = none-rivals waits before e n (λ r k w d. absurd (true≢false (sym (in-front e last r k w d) ∙ none_last (front l) h r)))
 
-    module _ (q : ℕ) (second : below (front l) (length (front l)) ≡ To q) where
+    module _ (q : ℕ) (second : below (front l) (length (front l)) ≡ Some q) where
       nearest : Ends before (front l) q
       nearest = ends before (front l) q (ending e last).ordered-front second
 
@@ -117,9 +116,9 @@ module _ {waits : ℕ → Bool} {before : ℕ → ℕ → Bool} {n : ℕ} {l : L
     unfolding ties_with
     tie-is = ap (ties_with before e) (below-front l) ∙ go (below (front l) (length (front l))) refl
       where
-        go : (o : Link) → below (front l) (length (front l)) ≡ o → ties_with before e o ≡ rivalled waits before e n
+        go : (o : Option ℕ) → below (front l) (length (front l)) ≡ o → ties_with before e o ≡ rivalled waits before e n
         go None h = sym (unrivalled h)
-        go (To q) h = rivals-second q h
+        go (Some q) h = rivals-second q h
 
     -- ---- the next one taken
 

@@ -1,18 +1,16 @@
 -- The queue of waiting events, the next one last: how the code finds what `first` and `rivalled` say without looking at every place. Its members are
 -- in the order of taking, so that a new one's place is found by halving; a division changes the keys of few, and those are put in anew.
-use Rattle.std.specs.Prelude.{◌≡◌, Bool, true, false, not, cond, ◌&&◌, ◌||◌, List, [], ◌∷◌, ℕ, zero, suc, ◌+◌, ◌/◌, length, get_or, eqb, ltb}
+use Rattle.std.specs.Prelude.{◌≡◌, Bool, true, false, not, cond, ◌&&◌, ◌||◌, List, [], ◌∷◌, ℕ, zero, suc, ◌+◌, ◌/◌, length, get_or, eqb, ltb, None, Option, Some}
 use Rattle.lists.specs.Lists.{slot, insert_at, remove_at}
-use Rattle.events.specs.declared.Link.{Link}
-use Rattle.events.specs.declared.Link.TheVariants.{None, To}
 
 -- of two that wait, a is taken before b: on a tie the lower number
 unfoldable pub leads : (ℕ → ℕ → Bool) → ℕ → ℕ → Bool
 leads before a b = cond (ltb a b) (before a b) (not (before b a))
 
 -- the next but one, if there is one, ties with e
-unfoldable pub ties_with : (ℕ → ℕ → Bool) → ℕ → Link → Bool
+unfoldable pub ties_with : (ℕ → ℕ → Bool) → ℕ → Option ℕ → Bool
 ties_with before e None = false
-ties_with before e (To r) = before e r && before r e
+ties_with before e (Some r) = before e r && before r e
 
 -- ---- what a queue is
 

@@ -1,20 +1,18 @@
 -- Which waiting event is taken (01, 'Sweep': the first in event order of all waiting at that moment, on a tie the lower number), and whether
 -- another that waits ties with it. Numbers wait or do not; `before` is an order of numbers that may be true both ways, and that is a tie.
-use Rattle.std.specs.Prelude.{Bool, false, not, cond, ◌&&◌, ◌||◌, List, ℕ, zero, suc, get_or, eqb}
-use Rattle.events.specs.declared.Link.{Link}
-use Rattle.events.specs.declared.Link.TheVariants.{None, To}
+use Rattle.std.specs.Prelude.{Bool, false, not, cond, ◌&&◌, ◌||◌, List, ℕ, zero, suc, get_or, eqb, None, Option, Some}
 use Rattle.events.specs.Binary64.{at_binary64}
 use Rattle.events.specs.Pool.{Pool, stored}
 use Rattle.order.specs.Order as Order
 use Rattle.order.specs.Keys.{key_used}
 
 -- of the first one so far and a higher number; on a tie the lower stays
-unfoldable pub choose : (ℕ → ℕ → Bool) → Link → ℕ → Link
-choose before None r = To r
-choose before (To q) r = cond (before q r) (To q) (To r)
+unfoldable pub choose : (ℕ → ℕ → Bool) → Option ℕ → ℕ → Option ℕ
+choose before None r = Some r
+choose before (Some q) r = cond (before q r) (Some q) (Some r)
 
 -- the first of those below n that wait
-unfoldable pub first : (ℕ → Bool) → (ℕ → ℕ → Bool) → ℕ → Link
+unfoldable pub first : (ℕ → Bool) → (ℕ → ℕ → Bool) → ℕ → Option ℕ
 first waits before zero = None
 first waits before (suc n) = cond (waits n) (choose before (first waits before n) n) (first waits before n)
 

@@ -11,7 +11,6 @@ ghost use Rattle.order.specs.Order.{before_there};
 ghost use Rattle.waiting.specs.Waiting.{flagged, before_used};
 ghost use Rattle.waiting.specs.Queue as Queue;
 
-use events::Link;
 use events::points::is_ahead;
 use events::pool::read_used;
 use order::{are_tied, before_there, key_used};
@@ -63,12 +62,18 @@ pub fn leads(points: &[[u64; 2]], marks: &[[u32; 12]], used: u32, a: u32, b: u32
 }
 
 // Whether record e ties with another, if there is one.
-pub fn ties_with(points: &[[u64; 2]], marks: &[[u32; 12]], used: u32, e: u32, other: Link) -> bool
+pub fn ties_with(
+    points: &[[u64; 2]],
+    marks: &[[u32; 12]],
+    used: u32,
+    e: u32,
+    other: Option<u32>,
+) -> bool
     ensures { result ≡ Queue.ties_with (before_used (pool points.now marks.now) used) e other }
 {
     match other {
-        Link::None => false,
-        Link::To(r) => are_tied(
+        None => false,
+        Some(r) => are_tied(
             key_used(points, marks, used, e),
             key_used(points, marks, used, r),
         ),

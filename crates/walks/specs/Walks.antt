@@ -2,8 +2,7 @@
 -- where they end, and whether it is open.
 -- `near` tells what a walk tries at a point (`round.specs.Round`): with `near` false, or the points in order, the trail is the definition's.
 -- A corner beyond the lent points is not stored; all places but those of the corners stay as lent.
-use Rattle.std.specs.Prelude.{◌≡◌, Bool, not, cond, List, [], ◌∷◌, map, ℕ, zero, suc, ◌+◌, length, set}
-use Rattle.std.proofs.Math.Option.{Option, none, some}
+use Rattle.std.specs.Prelude.{◌≡◌, Bool, not, cond, List, [], ◌∷◌, map, ℕ, zero, suc, ◌+◌, length, set, Option, None, Some}
 use Rattle.std.proofs.lemmas.List.Edits.{sets}
 use Rattle.numbers.specs.declared.Point.{Point}
 use Rattle.events.specs.Coordinates.{same}
@@ -90,8 +89,8 @@ module _ (t : Rows) where
 
     -- a walk goes on to a position that is found, unless it is home; m for nowhere
     unfoldable pub head_to : ℕ → Option ℕ → ℕ
-    head_to m none = m
-    head_to m (some j) = cond (same at_binary64 home (point_at t j)) m j
+    head_to m None = m
+    head_to m (Some j) = cond (same at_binary64 home (point_at t j)) m j
 
     -- from the end at q
     unfoldable pub heading : Bool → List ℕ → ℕ → ℕ

@@ -28,15 +28,17 @@ struct Edges {
     last: u32,
 }
 
-fn set_mark(walked: &mut [u32], i: usize, mark: u32)
-    ensures { walked.new ≡ set walked.old i mark }
+// Stores x at a place of the list, where that place is there.
+pub fn set_at<T: Copy>(list: &mut [T], i: usize, x: T)
+    ensures { list.new ≡ set list.old i x }
 {
-    if i < walked.len() {
-        walked[i] = mark;
+    if i < list.len() {
+        list[i] = x;
     }
 }
 
 // Where a walk goes on from the end at q; the number of marks where it does not.
+#[tactic(auto, using(crate::proofs::Walks::head_none, crate::proofs::Walks::head_some))]
 fn aim_from(
     rows: &[[u32; 4]],
     at: &[[u64; 2]],
@@ -60,6 +62,7 @@ fn aim_from(
 }
 
 // One edge, from pos to its other end q: both are marked, and q is the next corner.
+#[tactic(auto, unfolding(crate::specs::Walks::marked))]
 fn step(
     rows: &[[u32; 4]],
     at: &[[u64; 2]],
@@ -76,14 +79,15 @@ fn step(
 {
     let other = q as usize;
     let mark = c as u32 + 1;
-    set_mark(walked, pos, mark);
-    set_mark(walked, other, mark);
+    set_at(walked, pos, mark);
+    set_at(walked, other, mark);
     let p = point_at(at, other);
     put_point(corners, end, p);
     aim_from(rows, at, walked, near, home, q)
 }
 
 // The edges from start on, no more of them than the table has rows.
+#[tactic(auto, using(crate::proofs::Walks::edges_more, crate::proofs::Walks::edges_last, crate::proofs::Walks::edges_none))]
 fn edges_from(
     rows: &[[u32; 4]],
     at: &[[u64; 2]],
@@ -99,29 +103,23 @@ fn edges_from(
     ensures { trip walked.new corners.new result.end result.last ≡ edges_from (lent rows.now at.now) home near c (length rows.now) walked.old corners.old first 0 start }
 {
     let mut pos = start;
-    let mut end = first;
     let mut last = 0;
-    let mut k = rows.len();
-    while k > 0 {
+    for end in first..first + rows.len() {
         let edge = end_at(rows, pos);
         last = edge.other;
         pos = step(rows, at, walked, corners, near, home, c, pos, last, end);
-        end += 1;
-        k -= 1;
         if walked.len() <= pos {
-            return Edges {
-                end: end,
-                last: last,
-            };
+            return Edges { end: end + 1, last };
         }
     }
     Edges {
-        end: end,
-        last: last,
+        end: first + rows.len(),
+        last,
     }
 }
 
 // Contour c, from start; its corners are stored from first on.
+#[tactic(auto, using(crate::proofs::Walks::whole_none, crate::proofs::Walks::whole_some))]
 pub fn walk_from(
     rows: &[[u32; 4]],
     at: &[[u64; 2]],
@@ -135,7 +133,7 @@ pub fn walk_from(
     ensures { toured walked.new corners.new result ≡ walked_from (lent rows.now at.now) near c start first walked.old corners.old }
 {
     let begin = first as usize;
-    if rows.len() == 0 {
+    if rows.is_empty() {
         return Walk {
             end: begin,
             unclosed: true,

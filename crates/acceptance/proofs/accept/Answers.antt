@@ -1,4 +1,5 @@
 -- 1 is decided by the sizes, and the rest in the places for such a pool.
+use native.Mathlib.Omega.{arith}
 use Rattle.acceptance.proofs.Accepting.{within-limit, list-refused, pool-refused, accepts}
 use Rattle.acceptance.proofs.accept.Goals as goal
 
@@ -10,12 +11,12 @@ returns-then-pool_refused c = pool-refused _ _ _ _ _ c.if-list-gt-MAX_EVENTS.fal
 
 pub returns-then-points-le-FEW : goal.returns-then-points-le-FEW
 returns-then-points-le-FEW c =
-    accepts _ _ _ _ _ c.if-list-gt-MAX_EVENTS.false c.pool_refused.ensures c.if-pool_refused.false c.check_few.ensures
+    accepts _ _ _ _ _ c.if-list-gt-MAX_EVENTS.false c.pool_refused.ensures c.if-pool_refused.false c.check_of.ensures
 
-pub check_many-requires : goal.check_many-requires
-check_many-requires c =
-    within-limit _ _ c.pool_refused.ensures c.if-pool_refused.false
+pub check_of-requires-2 : goal.check_of-requires-2
+check_of-requires-2 c =
+    (within-limit _ _ c.pool_refused.ensures c.if-pool_refused.false, omega arith)
 
 pub returns : goal.returns
 returns c =
-    accepts _ _ _ _ _ c.if-list-gt-MAX_EVENTS.false c.pool_refused.ensures c.if-pool_refused.false c.check_many.ensures
+    accepts _ _ _ _ _ c.if-list-gt-MAX_EVENTS.false c.pool_refused.ensures c.if-pool_refused.false c.check_of-2.ensures

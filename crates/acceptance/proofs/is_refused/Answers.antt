@@ -2,10 +2,10 @@
 use Rattle.acceptance.specs.OnPool.{is_refused}
 use Rattle.acceptance.proofs.is_refused.Goals as goal
 
-pub returns-in-Passed : goal.returns-in-Passed
+pub returns-in-Ok : goal.returns-in-Ok
 unfolding is_refused
-returns-in-Passed c = rw c.in-Passed.is
+returns-in-Ok c = rw c.in-Ok.is
 
-pub returns-in-Refused : goal.returns-in-Refused
+pub returns-in-Err : goal.returns-in-Err
 unfolding is_refused
-returns-in-Refused c = rw c.in-Refused.is
+returns-in-Err c = rw c.in-Err.is

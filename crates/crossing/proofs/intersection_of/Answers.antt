@@ -2,10 +2,10 @@
 use Rattle.crossing.specs.Crossing.{intersection_of, in_box}
 use Rattle.crossing.proofs.intersection_of.Goals as goal
 
-pub returns-in-Apart : goal.returns-in-Apart
+pub returns-in-None : goal.returns-in-None
 unfolding intersection_of in_box
-returns-in-Apart c = rw (← c.get_intersection_bounding_box.ensures, c.in-Apart.is)
+returns-in-None c = rw (← c.get_intersection_bounding_box.ensures, c.in-None.is)
 
-pub returns-in-Share : goal.returns-in-Share
+pub returns-in-Some : goal.returns-in-Some
 unfolding intersection_of in_box
-returns-in-Share c = rw (← c.get_intersection_bounding_box.ensures, c.in-Share.is, c.or_lost.ensures, c.constrained.ensures, c.intersection_impl.ensures)
+returns-in-Some c = rw (← c.get_intersection_bounding_box.ensures, c.in-Some.is, c.or_lost.ensures, c.constrained.ensures, c.intersection_impl.ensures)

@@ -3,10 +3,10 @@ use mathlib.Core.Path.{refl}
 use Rattle.entries.specs.ToldCrossing as Told
 use Rattle.entries.proofs.tell_crossed.Goals as goal
 
-pub returns-in-Refused : goal.returns-in-Refused
+pub returns-in-Err : goal.returns-in-Err
 unfolding Told.refusal Told.place Told.kind Told.corners
-returns-in-Refused c = rw c.in-Refused.is (record { value = refl; kind_after = refl; corners_after = refl; place_after = refl })
+returns-in-Err c = rw c.in-Err.is (record { value = c.from.ensures; kind_after = refl; corners_after = refl; place_after = refl })
 
-pub returns-in-Found : goal.returns-in-Found
+pub returns-in-Ok : goal.returns-in-Ok
 unfolding Told.refusal Told.place Told.kind Told.corners
-returns-in-Found c = rw c.in-Found.is (record { value = refl; kind_after = c.tell_crossing.ensures.kind_after; corners_after = c.tell_crossing.ensures.corners_after; place_after = refl })
+returns-in-Ok c = rw c.in-Ok.is (record { value = refl; kind_after = c.tell_crossing.ensures.kind_after; corners_after = c.tell_crossing.ensures.corners_after; place_after = refl })

@@ -1,21 +1,14 @@
-use mathlib.Core.Path.{sym, ◌∙◌}
-use native.Mathlib.Omega.{arith}
-use borrow.Author.Rules.{rules}
-use Rattle.numbers.proofs.First.{found, passed, ended, begun}
+use Rattle.std.proofs.Common.{◌≡◌, rules, tests}
+use Rattle.std.specs.List.{position}
+use Rattle.std.proofs.lemmas.Iterator.{YieldsList-from_slice}
+use Rattle.std.proofs.lemmas.Iterator.Search.{position_from_yields_List}
+use Rattle.numbers.specs.Binary64.{not_finite}
+use Rattle.numbers.proofs.First.{position_is_first}
 use Rattle.numbers.proofs.first_not_finite.Goals as goal
 
-pub loop-i-init : goal.loop-i-init
-loop-i-init c = (search rules, begun _)
-
-pub returns-then-not_finite : goal.returns-then-not_finite
-returns-then-not_finite c =
-    let i = c.loop-i in
-    sym (found _ i.i (search rules) (sym c.not_finite.ensures ∙ c.if-not_finite.true)) ∙ i.invariant.1
-
-pub loop-i-preserved : goal.loop-i-preserved
-loop-i-preserved c =
-    let i = c.loop-i in
-    (search rules, sym (passed _ i.i (search rules) (sym c.not_finite.ensures ∙ c.if-not_finite.false)) ∙ i.invariant.1)
-
 pub returns : goal.returns
-returns c = sym (ended _ c.loop-i.i (omega arith)) ∙ c.loop-i.invariant.1
+returns c =
+    let xs = c.args.numbers.now in
+    let found : c.position.result ≡ position not_finite xs =
+    position_from_yields_List not_finite _ _ c.position.result c.position.ensures.ran (YieldsList-from_slice xs cc) (λ x b q k. search (rules, tests)) in
+    rw (c.unwrap_or.ensures, found) (position_is_first xs)

@@ -4,10 +4,10 @@ use Rattle.overlay_work.specs.Answer.{number_of, values_of}
 use Rattle.overlay_entry.specs.Told.{length, place}
 use Rattle.overlay_entry.proofs.tell.Goals as goal
 
-pub returns-in-Refused : goal.returns-in-Refused
+pub returns-in-Err : goal.returns-in-Err
 unfolding number_of values_of length place
-returns-in-Refused c = rw c.in-Refused.is (record { value = refl; length_after = refl; place_after = refl })
+returns-in-Err c = rw c.in-Err.is (record { value = c.from.ensures; length_after = refl; place_after = refl })
 
-pub returns-in-Printed : goal.returns-in-Printed
+pub returns-in-Ok : goal.returns-in-Ok
 unfolding number_of values_of length place
-returns-in-Printed c = rw c.in-Printed.is (record { value = refl; length_after = refl; place_after = refl })
+returns-in-Ok c = rw c.in-Ok.is (record { value = refl; length_after = refl; place_after = refl })

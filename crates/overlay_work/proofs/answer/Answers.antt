@@ -2,9 +2,9 @@
 use Rattle.overlay_work.proofs.Handing.{printed, refused-line}
 use Rattle.overlay_work.proofs.answer.Goals as goal
 
-pub returns-in-Printed : goal.returns-in-Printed
-returns-in-Printed c = printed _ _ _ _ c.overlay.ensures _ c.in-Printed.is
+pub returns-in-Ok : goal.returns-in-Ok
+returns-in-Ok c = printed _ _ _ _ c.overlay.ensures _ c.in-Ok.is
 
-pub returns-in-Refused : goal.returns-in-Refused
-returns-in-Refused c =
-    refused-line _ _ _ _ c.overlay.ensures _ _ _ c.in-Refused.is c.print_refusal.ensures
+pub returns-in-Err : goal.returns-in-Err
+returns-in-Err c =
+    refused-line _ _ _ _ c.overlay.ensures _ _ _ c.in-Err.is c.print_refusal.ensures

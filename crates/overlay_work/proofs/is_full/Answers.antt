@@ -2,10 +2,10 @@
 use Rattle.overlay_work.specs.Overlay.{is_full}
 use Rattle.overlay_work.proofs.is_full.Goals as goal
 
-pub returns-in-Printed : goal.returns-in-Printed
+pub returns-in-Ok : goal.returns-in-Ok
 unfolding is_full
-returns-in-Printed c = rw c.in-Printed.is
+returns-in-Ok c = rw c.in-Ok.is
 
-pub returns-in-Refused : goal.returns-in-Refused
+pub returns-in-Err : goal.returns-in-Err
 unfolding is_full
-returns-in-Refused c = rw c.in-Refused.is
+returns-in-Err c = rw (c.in-Err.is, c.from.ensures, c.from-in-Err.ensures)

@@ -11,4 +11,4 @@ unfolding quoted
 returns c =
     let a = c.args in
     let room : length a.out.now ≤ 18446744073709551615 = omega arith in
-    drawing-put a.corners.now a.contours.now a.holes.now a.count _ room c.at_most-n.ensures c.line-place.ensures c.all_lines.ensures
+    drawing-put a.corners.now a.contours.now a.holes.now a.count _ room c.min-n.ensures c.line-place.ensures c.all_lines.ensures

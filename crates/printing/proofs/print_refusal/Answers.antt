@@ -11,4 +11,4 @@ pub returns : goal.returns
 unfolding refusal_line quoted
 returns c =
     let room : length c.args.out.now ≤ 18446744073709551615 = omega arith in
-    then room c.text-told.ensures (then (kept c.text-told.ensures room) c.number-end.ensures c.line.ensures)
+    then room c.text-told.ensures (then (kept c.text-told.ensures room) (rw c.from.ensures at c.number-end.ensures) c.line.ensures)

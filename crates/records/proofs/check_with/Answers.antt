@@ -4,5 +4,5 @@ use Rattle.records.proofs.check_with.Goals as goal
 pub returns-in-None : goal.returns-in-None
 returns-in-None c = rw (c.in-None.is, c.check_left_one.ensures)
 
-pub returns-in-To : goal.returns-in-To
-returns-in-To c = rw (c.in-To.is, c.check_left_two.ensures)
+pub returns-in-Some : goal.returns-in-Some
+returns-in-Some c = rw (c.in-Some.is, c.check_left_two.ensures)

@@ -7,6 +7,3 @@ use Rattle.round.proofs.seek_down.Given as goal
 
 abbrev pub invariant-loop-j : goal.invariant-loop-j
 invariant-loop-j l = lefts_from (lent l.rows l.at) l.marks l.p l.i (l.j - l.i) ≡ lefts_from (lent l.rows l.at) l.marks l.p l.i (l.e - l.i)
-
-abbrev pub decreases-loop-j : goal.decreases-loop-j
-decreases-loop-j l = l.j

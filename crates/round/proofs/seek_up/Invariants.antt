@@ -7,6 +7,3 @@ use Rattle.round.proofs.seek_up.Given as goal
 
 abbrev pub invariant-loop-j : goal.invariant-loop-j
 invariant-loop-j l = rights_from (lent l.rows l.at) l.marks l.p l.j (l.e - l.j) ≡ rights_from (lent l.rows l.at) l.marks l.p l.i (l.e - l.i)
-
-abbrev pub decreases-loop-j : goal.decreases-loop-j
-decreases-loop-j l = l.e - l.j

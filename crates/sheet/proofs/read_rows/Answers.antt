@@ -1,25 +1,27 @@
 -- A refused sheet changes nothing; the rows of an accepted one, in the first places of the array that was read into, are copied layer by layer.
+use Rattle.std.proofs.lemmas.Result.{err_from_is_err_and}
 use mathlib.Core.Path.{sym}
 use lib.Seq.{length-take-le}
 use Rattle.sheet.proofs.Copies.{rows-refused, read-within, subject-within, rows-read}
 use Rattle.sheet.proofs.read_rows.Goals as goal
 
 pub slice_bounds-own-end : goal.slice_bounds-own-end
-slice_bounds-own-end c = subject-within c.args.bytes.now _ c.read_lines.ensures.value _ _ _ c.in-Read.is _ _ c.no_rows-own.ensures c.read_lines.auto.rows
+slice_bounds-own-end c = subject-within c.args.bytes.now _ c.read_lines.ensures.value _ _ _ c.in_ok-counts.was _ _ c.no_rows-own.ensures c.read_lines.auto.rows
 
 pub slice_bounds-copy_rows-end : goal.slice_bounds-copy_rows-end
-slice_bounds-copy_rows-end c = sym (length-take-le _ _ (subject-within c.args.bytes.now _ c.read_lines.ensures.value _ _ _ c.in-Read.is _ _ c.no_rows-own.ensures c.read_lines.auto.rows))
+slice_bounds-copy_rows-end c = sym (length-take-le _ _ (subject-within c.args.bytes.now _ c.read_lines.ensures.value _ _ _ c.in_ok-counts.was _ _ c.no_rows-own.ensures c.read_lines.auto.rows))
 
-pub slice_bounds-copy_rows-end-in-Read : goal.slice_bounds-copy_rows-end-in-Read
-slice_bounds-copy_rows-end-in-Read c = read-within c.args.bytes.now _ c.read_lines.ensures.value _ _ _ c.in-Read.is _ _ c.no_rows-own.ensures c.read_lines.auto.rows
+pub slice_bounds-copy_rows-end-2 : goal.slice_bounds-copy_rows-end-2
+slice_bounds-copy_rows-end-2 c = read-within c.args.bytes.now _ c.read_lines.ensures.value _ _ _ c.in_ok-counts.was _ _ c.no_rows-own.ensures c.read_lines.auto.rows
 
-pub returns-in-Refused : goal.returns-in-Refused
-returns-in-Refused c =
+pub returns-in_err-counts : goal.returns-in_err-counts
+returns-in_err-counts c =
     let a = c.args in
-    rows-refused a.bytes.now _ c.read_lines.ensures.value _ c.in-Refused.is a.subject.now a.clip.now
+    let p = err_from_is_err_and c.from_residual.result c.from_residual.ensures.1 in
+    rw (p.1, p.2) (rows-refused a.bytes.now _ c.read_lines.ensures.value _ c.in_err-counts.was a.subject.now a.clip.now)
 
-pub returns-in-Read : goal.returns-in-Read
-returns-in-Read c =
+pub returns : goal.returns
+returns c =
     let a = c.args in
     let r = c.read_lines.ensures in
-    rows-read a.bytes.now _ r.value _ _ _ c.in-Read.is _ _ c.no_rows-own.ensures r.rows_after _ _ _ _ c.copy_rows.ensures c.copy_rows-in-Read.ensures
+    rows-read a.bytes.now _ r.value _ _ _ c.in_ok-counts.was _ _ c.no_rows-own.ensures r.rows_after _ _ _ _ c.copy_rows.ensures c.copy_rows-2.ensures

@@ -4,10 +4,10 @@ use Rattle.loading.specs.Answer.{number_of, values_of}
 use Rattle.stages.specs.Told.{load_used, load_place}
 use Rattle.stages.proofs.bezorika_load.Goals as goal
 
-pub returns-in-Refused : goal.returns-in-Refused
+pub returns-in-Err : goal.returns-in-Err
 unfolding number_of values_of load_used load_place
-returns-in-Refused c = rw (← c.load.ensures, c.in-Refused.is) (record { value = refl; marks_after = refl; used_after = refl; place_after = refl })
+returns-in-Err c = rw (← c.load.ensures, c.in-Err.is) (record { value = c.from.ensures; marks_after = refl; used_after = refl; place_after = refl })
 
-pub returns-in-Done : goal.returns-in-Done
+pub returns-in-Ok : goal.returns-in-Ok
 unfolding number_of values_of load_used load_place
-returns-in-Done c = rw (← c.load.ensures, c.in-Done.is) (record { value = refl; marks_after = refl; used_after = refl; place_after = refl })
+returns-in-Ok c = rw (← c.load.ensures, c.in-Ok.is) (record { value = refl; marks_after = refl; used_after = refl; place_after = refl })

@@ -6,6 +6,6 @@ use Rattle.stages.proofs.bezorika_subdivide.Goals as goal
 pub returns : goal.returns
 unfolding sweep_counts
 returns c =
-    let ended = c.tell_end-number.ensures in
+    let ended = c.tell_end.ensures in
     rw (← c.operation_of.ensures, ← c.subdivide-s.ensures)
-    (record { value = ended.value; marks_after = refl; taken_after = refl; counts_after = rw (← ended.value, ← c.number_of_flag.ensures) c.tell_counts.ensures; place_after = ended.place_after })
+    (record { value = ended.value; marks_after = refl; taken_after = refl; counts_after = rw (← c.number_of_flag.ensures) c.tell_counts.ensures; place_after = ended.place_after })

@@ -4,10 +4,10 @@ use Rattle.sweep.specs.Answer.{number_of, values_of}
 use Rattle.stages.specs.Told.{sweep_place}
 use Rattle.stages.proofs.tell_end.Goals as goal
 
-pub returns-in-Done : goal.returns-in-Done
+pub returns-in-Ok : goal.returns-in-Ok
 unfolding number_of values_of sweep_place
-returns-in-Done c = rw c.in-Done.is (record { value = refl; place_after = refl })
+returns-in-Ok c = rw c.in-Ok.is (record { value = refl; place_after = refl })
 
-pub returns-in-Refused : goal.returns-in-Refused
+pub returns-in-Err : goal.returns-in-Err
 unfolding number_of values_of sweep_place
-returns-in-Refused c = rw c.in-Refused.is (record { value = refl; place_after = refl })
+returns-in-Err c = rw c.in-Err.is (record { value = c.from.ensures; place_after = refl })

@@ -1,5 +1,5 @@
 -- What the positions left give from now on is what all give from the start.
-use Prim.Native.Nat.{◌-◌, ◌≤◌}
+use Prim.Native.Nat.{◌-◌}
 use mathlib.Core.Path.{◌≡◌}
 use lib.ListN.{length}
 use Rattle.rows.specs.Rows.{lent}
@@ -11,10 +11,3 @@ abbrev pub invariant-loop-i : goal.invariant-loop-i
 invariant-loop-i l =
     (starts (lent l.rows l.at) l.near (length l.rows - l.i) l.i (sheet l.walked l.corners l.nests l.s) ≡ starts (lent l.rows l.at) l.near (length l.rows) 0 (sheet l.initial.walked l.initial.corners l.initial.nests (turn_of 0 0 0 0 0)))
     × (Within l.s l.nests l.i)
-    × (l.i ≤ length l.rows)
-    × (length l.walked ≡ length l.initial.walked)
-    × (length l.corners ≡ length l.initial.corners)
-    × (length l.nests ≡ length l.initial.nests)
-
-abbrev pub decreases-loop-i : goal.decreases-loop-i
-decreases-loop-i l = length l.rows - l.i

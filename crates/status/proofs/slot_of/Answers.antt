@@ -1,28 +1,15 @@
-use mathlib.Core.Path.{refl, sym}
-use native.Mathlib.Omega.{arith}
-use borrow.Author.Tests.{eq-eqb, ne_eqb}
-use lib.ListN.{length-take}
-use Rattle.lists.proofs.Slots.{begun, found, passed, ended}
+-- What the search tells of the members is their slot.
+use Rattle.std.proofs.Common.{◌≡◌, eqb, take, rules, tests}
+use Rattle.std.specs.List.{position}
+use Rattle.std.proofs.lemmas.Iterator.{YieldsList-from_slice}
+use Rattle.std.proofs.lemmas.Iterator.Search.{position_from_yields_List}
+use Rattle.lists.proofs.Slots.{position_is_slot}
 use Rattle.status.proofs.slot_of.Goals as goal
 
-pub loop-i-init : goal.loop-i-init
-loop-i-init c =
-    let a = c.args in
-    (c.count-end.ensures, omega (arith, length-take a.n a.status.now), omega arith, begun _ _ _)
-
-pub returns-then-status-i : goal.returns-then-status-i
-returns-then-status-i c =
-    let l = c.loop-i in
-    found _ _ _ l.i (omega arith) l.invariant.3 (sym (eq-eqb _ _ c.if-status-i.true)) refl
-
-pub loop-i-preserved : goal.loop-i-preserved
-loop-i-preserved c =
-    let l = c.loop-i in (
-      l.invariant.0,
-      l.invariant.1,
-      omega arith,
-      passed _ _ _ l.i (omega arith) l.invariant.3 (sym (ne_eqb _ _ c.if-status-i.false)) refl,
-    )
-
 pub returns : goal.returns
-returns c = ended _ _ _ c.loop-i.i (omega arith) c.loop-i.invariant.3
+returns c =
+    let a = c.args in
+    let members = take a.n a.status.now in
+    let found : c.position.result ≡ position (λ m. eqb m a.o) members =
+    position_from_yields_List (λ m. eqb m a.o) _ _ c.position.result c.position.ensures.ran (YieldsList-from_slice members cc) (λ x b q k. search (rules, tests)) in
+    rw (c.unwrap_or.ensures, found, c.members_of-members.ensures) (position_is_slot _ members)

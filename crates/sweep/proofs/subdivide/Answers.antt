@@ -1,17 +1,12 @@
 -- The checks decide.
-use mathlib.Core.Path.{sym, ◌∙◌}
 use Rattle.sweep.specs.OnPool.{as_lent}
 use Rattle.sweep.proofs.Sweeps.{refused-is, passed_is}
 use Rattle.sweep.proofs.subdivide.Goals as goal
 
-pub sweep-requires : goal.sweep-requires
+pub returns-in-Err : goal.returns-in-Err
 unfolding as_lent
-sweep-requires c = sym c.check.ensures ∙ c.in-Passed.is
+returns-in-Err c = refused-is _ _ _ _ _ _ c.check.ensures _ c.in-Err.is
 
-pub returns-in-Refused : goal.returns-in-Refused
+pub returns-in-Ok : goal.returns-in-Ok
 unfolding as_lent
-returns-in-Refused c = refused-is _ _ _ _ _ _ c.check.ensures _ c.in-Refused.is
-
-pub returns-in-Passed : goal.returns-in-Passed
-unfolding as_lent
-returns-in-Passed c = passed_is _ _ _ _ _ _ c.check.ensures _ c.in-Passed.is c.sweep.ensures
+returns-in-Ok c = passed_is _ _ _ _ _ _ c.check.ensures _ c.in-Ok.is c.sweep.ensures

@@ -1,26 +1,8 @@
 -- The run starts from every place waiting and the loaded records in the queue, and its last turn tells the answer.
-use mathlib.Core.Path.{refl, ◌∙◌}
-use native.Mathlib.Omega.{arith}
-use Rattle.sweep.proofs.Sweeps.{accepted, places-are, flags-at-start, enough-flags, as-many-flags, all-flags, queue-at-start, begun, fits-at-start, none_yet, not-fewer, swept-is}
+use mathlib.Core.Path.{refl}
+use Rattle.sweep.proofs.Sweeps.{accepted, places-are, flags-at-start, all-flags, queue-at-start, begun, fits-at-start, none_yet, not-fewer, swept-is}
 use Rattle.sweep.proofs.AtBinary64.{start-at}
 use Rattle.sweep.proofs.sweep_in.Goals as goal
-
-pub slice_bounds-requeue-end : goal.slice_bounds-requeue-end
-slice_bounds-requeue-end c = enough-flags _ _ _ _ c.requires.1
-
-pub slice_bounds-requeue-end-2 : goal.slice_bounds-requeue-end-2
-slice_bounds-requeue-end-2 c = as-many-flags _ _ _ _ c.requires.1
-
-pub slice_bounds-run-end : goal.slice_bounds-run-end
-slice_bounds-run-end c = enough-flags _ _ _ _ c.requires.1
-
-pub slice_bounds-run-end-2 : goal.slice_bounds-run-end-2
-slice_bounds-run-end-2 c = as-many-flags _ _ _ _ c.requires.1
-
-pub overflow_add-size : goal.overflow_add-size
-overflow_add-size c =
-    let lent = c.requires.1 in
-    omega (arith, lent.room, lent.few)
 
 pub run-last-requires : goal.run-last-requires
 run-last-requires c =
@@ -35,10 +17,6 @@ overflow_sub-result c =
     let a = accepted _ _ _ c.requires.0 in
     let from = begun _ _ _ _ c.line_up.ensures c.start.ensures in
     not-fewer _ _ _ _ _ _ _ _ _ _ c.run-last.result _ _ _ _ _ _ (places-are _ a.0) c.bounds_of-bounds.ensures.subject_value c.bounds_of-bounds.ensures.clip_value (flags-at-start _ _ _ _ c.requires.1) (none_yet _ _ _ _ from).0 (none_yet _ _ _ _ from).1 from c.run-last.ensures.result_after
-
-pub shape_of-queue : goal.shape_of-queue
-shape_of-queue c =
-    c.run-last.auto.queue ∙ c.requeue-waiting.auto.queue
 
 pub returns : goal.returns
 returns c =

@@ -2,7 +2,7 @@
 use native.Mathlib.Omega.{arith}
 use Rattle.events.specs.Pool.{pool}
 use Rattle.rows.specs.Rows.{lent}
-use Rattle.tabulation.proofs.Tabled.{most, ready, all_laid, no_room}
+use Rattle.tabulation.proofs.Tabled.{most, ready, all_laid}
 use Rattle.tabulation.proofs.tabulate.Goals as goal
 
 pub overflow_cast-n : goal.overflow_cast-n
@@ -20,18 +20,3 @@ pub returns-then-has_room : goal.returns-then-has_room
 returns-then-has_room c =
     let a = c.args in
     all_laid (pool a.points.now a.marks.now) a.list.now a.order.now a.places.now (lent a.rows.now a.at.now) _ c.has_room.ensures c.if-has_room.true _ _ c.order_events-n.ensures _ c.place_all.ensures _ c.fill.ensures
-
-pub returns : goal.returns
-returns c = no_room _ _ _ _ _ _ c.has_room.ensures c.if-has_room.false
-
-pub shape_of-order-then-has_room : goal.shape_of-order-then-has_room
-shape_of-order-then-has_room c = c.order_events-n.auto.order
-
-pub shape_of-places-then-has_room : goal.shape_of-places-then-has_room
-shape_of-places-then-has_room c = c.place_all.auto.places
-
-pub shape_of-rows-then-has_room : goal.shape_of-rows-then-has_room
-shape_of-rows-then-has_room c = c.fill.auto.rows
-
-pub shape_of-at-then-has_room : goal.shape_of-at-then-has_room
-shape_of-at-then-has_room c = c.fill.auto.at

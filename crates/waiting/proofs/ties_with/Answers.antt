@@ -10,6 +10,6 @@ pub returns-in-None : goal.returns-in-None
 unfolding ties_with
 returns-in-None c = rw c.in-None.is
 
-pub returns-in-To : goal.returns-in-To
+pub returns-in-Some : goal.returns-in-Some
 unfolding ties_with before_used
-returns-in-To c = rw (c.in-To.is, c.are_tied.ensures, c.key_used-in-To.ensures, c.key_used.ensures) (sym (ties laws _ _))
+returns-in-Some c = rw (c.in-Some.is, c.are_tied.ensures, c.key_used-in-Some.ensures, c.key_used.ensures) (sym (ties laws _ _))

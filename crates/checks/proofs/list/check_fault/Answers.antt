@@ -6,7 +6,7 @@ use Rattle.checks.proofs.list.check_fault.Goals as goal
 pub returns-then-at-list : goal.returns-then-at-list
 unfolding told
 returns-then-at-list c =
-    rw (← c.first_struck-at.ensures, lt-ltb _ _ c.if-at-list.true, c.number_of.ensures, c.place_of.ensures)
+    rw (← c.first_struck-at.ensures, lt-ltb _ _ c.if-at-list.true, c.reason_of.ensures, c.place_of.ensures)
 
 pub returns : goal.returns
 unfolding told

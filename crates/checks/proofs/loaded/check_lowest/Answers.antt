@@ -14,7 +14,7 @@ returns-then-r-n c =
     _
     c.lowest_struck-r.ensures
     c.if-r-n.true
-    c.number_of.ensures
+    c.reason_of.ensures
     c.place_of.ensures
 
 pub returns : goal.returns

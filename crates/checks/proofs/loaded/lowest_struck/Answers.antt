@@ -1,19 +1,14 @@
-use native.Mathlib.Omega.{arith}
-use Rattle.checks.proofs.Lowest.{begun, found, passed, ended}
+-- The search over the numbers finds the lowest, and where it finds none n stands for it.
+use mathlib.Core.Path.{◌≡◌, ◌∙◌}
+use mathlib.Core.Bool.{true, false}
+use Rattle.std.proofs.Common.{rules, tests}
+use Rattle.std.proofs.lemmas.Iterator.{first_from_Range}
+use Rattle.events.specs.Pool.{pool}
+use Rattle.checks.specs.OnPool.{strikes}
+use Rattle.checks.proofs.Lowest.{lowest-is}
 use Rattle.checks.proofs.loaded.lowest_struck.Goals as goal
 
-pub loop-r-init : goal.loop-r-init
-loop-r-init c = (omega arith, begun _ _)
-
-pub returns-then-is_struck : goal.returns-then-is_struck
-returns-then-is_struck c =
-    let l = c.loop-r in
-    found _ _ l.r c.loop-r-test.true l.invariant.1 c.is_struck.ensures c.if-is_struck.true
-
-pub loop-r-preserved : goal.loop-r-preserved
-loop-r-preserved c =
-    let l = c.loop-r in
-    (omega arith, passed _ _ l.r c.loop-r-test.true l.invariant.1 c.is_struck.ensures c.if-is_struck.false)
-
 pub returns : goal.returns
-returns c = ended _ _ c.loop-r.r (omega arith) c.loop-r.invariant.1
+returns c =
+    let test = strikes (pool c.args.points.now c.args.marks.now) c.args.n c.args.fault in
+    c.unwrap_or.ensures ∙ lowest-is test c.args.n c.find-struck.result (first_from_Range _ _ _ _ (λ r. test r ≡ true) (λ r. test r ≡ false) c.find-struck.ensures.ran (λ x q k. search (rules, tests)) (λ x q k. search (rules, tests)))

@@ -6,6 +6,6 @@ pub returns-in-None : goal.returns-in-None
 unfolding lower_at
 returns-in-None c = rw c.in-None.is
 
-pub returns-in-To : goal.returns-in-To
+pub returns-in-Some : goal.returns-in-Some
 unfolding lower_at
-returns-in-To c = rw (c.in-To.is, c.neighbour_at.ensures)
+returns-in-Some c = rw (c.in-Some.is, c.neighbour_at.ensures)

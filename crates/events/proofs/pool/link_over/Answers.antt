@@ -1,11 +1,12 @@
 -- Whether the lent marks say this link decides.
 use Rattle.events.specs.Pool.{link_over}
+use Rattle.events.proofs.Over.{same_link-eq}
 use Rattle.events.proofs.pool.link_over.Goals as goal
 
-pub returns-then-same_link : goal.returns-then-same_link
+pub returns-then-eq : goal.returns-then-eq
 unfolding link_over
-returns-then-same_link c = rw (← c.link_of.ensures, ← c.same_link.ensures, c.if-same_link.true)
+returns-then-eq c = rw (← c.link_of.ensures, same_link-eq c.link_of.result c.args.l, ← c.eq.ensures, c.if-eq.true)
 
 pub returns : goal.returns
 unfolding link_over
-returns c = rw (← c.link_of.ensures, ← c.same_link.ensures, c.if-same_link.false) c.number_of_link.ensures
+returns c = rw (← c.link_of.ensures, same_link-eq c.link_of.result c.args.l, ← c.eq.ensures, c.if-eq.false) c.number_of_link.ensures

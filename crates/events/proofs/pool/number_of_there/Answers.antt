@@ -6,6 +6,6 @@ pub returns-in-None : goal.returns-in-None
 unfolding there_number
 returns-in-None c = rw c.in-None.is
 
-pub returns-in-To : goal.returns-in-To
+pub returns-in-Some : goal.returns-in-Some
 unfolding there_number
-returns-in-To c = rw c.in-To.is
+returns-in-Some c = rw c.in-Some.is

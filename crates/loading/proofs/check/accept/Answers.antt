@@ -1,19 +1,24 @@
 -- Each check that passes hands on to the next.
+use Rattle.std.proofs.lemmas.Result.{err_from_is_err_and}
 use Rattle.checks.specs.Checks.{and_then}
 use Rattle.loading.specs.OnPool as OnPool
 use Rattle.loading.proofs.check.accept.Goals as goal
 
-pub returns-in-Refused : goal.returns-in-Refused
+pub returns-in_err-check_sizes : goal.returns-in_err-check_sizes
 unfolding OnPool.accept and_then
-returns-in-Refused c = rw (← c.check_sizes.ensures, c.in-Refused.is)
+returns-in_err-check_sizes c =
+    let p = err_from_is_err_and c.from_residual.result c.from_residual.ensures.1 in
+    rw (p.1, p.2, ← c.check_sizes.ensures, c.in_err-check_sizes.was)
 
-pub returns-in-Refused-check_pool : goal.returns-in-Refused-check_pool
+pub returns-in_err-check_pool : goal.returns-in_err-check_pool
 unfolding OnPool.accept and_then
-returns-in-Refused-check_pool c =
-    rw (← c.check_sizes.ensures, c.in-Passed.is, ← c.check_pool.ensures, c.in-Refused-check_pool.is)
+returns-in_err-check_pool c =
+    let r = c.from_residual-in_err-check_pool in
+    let p = err_from_is_err_and r.result r.ensures.1 in
+    rw (p.1, p.2, ← c.check_sizes.ensures, c.in_ok-check_sizes.was, ← c.check_pool.ensures, c.in_err-check_pool.was)
 
-pub returns-in-Passed-check_pool : goal.returns-in-Passed-check_pool
+pub returns : goal.returns
 unfolding OnPool.accept and_then
-returns-in-Passed-check_pool c =
+returns c =
     rw
-    (← c.check_sizes.ensures, c.in-Passed.is, ← c.check_pool.ensures, c.in-Passed-check_pool.is, c.check_edges.ensures)
+    (← c.check_sizes.ensures, c.in_ok-check_sizes.was, ← c.check_pool.ensures, c.in_ok-check_pool.was, c.check_edges.ensures)

@@ -1,7 +1,6 @@
 -- The invariant: the checks of the edges from i on tell the whole.
 use mathlib.Core.Path.{◌≡◌}
-use Prim.Native.Nat.{◌≤◌, ◌-◌}
-use lib.ListN.{length, drop}
+use lib.ListN.{drop}
 use Rattle.events.specs.Binary64.{at_binary64}
 use Rattle.loading.specs.Loading.{checked_edges}
 use Rattle.loading.specs.OnPool.{edges_of}
@@ -9,11 +8,4 @@ use Rattle.loading.proofs.check.check_edges.Given as goal
 
 abbrev pub invariant-loop-i : goal.invariant-loop-i
 invariant-loop-i l =
-    (checked_edges at_binary64 l.i (drop l.i (edges_of l.ends l.labels)) ≡ checked_edges at_binary64 0 (edges_of l.ends l.labels))
-    × (l.n ≡ length (edges_of l.ends l.labels))
-    × (l.n ≤ length l.ends)
-    × (l.n ≤ length l.labels)
-    × (l.i ≤ l.n)
-
-abbrev pub decreases-loop-i : goal.decreases-loop-i
-decreases-loop-i l = l.n - l.i
+    checked_edges at_binary64 l.i (drop l.i (edges_of l.ends l.labels)) ≡ checked_edges at_binary64 0 (edges_of l.ends l.labels)

@@ -1,7 +1,6 @@
 -- The invariant: loading the edges from i on into the pool now gives the whole.
 use mathlib.Core.Path.{◌≡◌}
-use Prim.Native.Nat.{◌≤◌, ◌-◌}
-use lib.ListN.{length, drop}
+use lib.ListN.{drop}
 use Rattle.events.specs.Binary64.{at_binary64}
 use Rattle.events.specs.Pool.{pool, stored}
 use Rattle.loading.specs.Loading.{loaded}
@@ -10,13 +9,4 @@ use Rattle.loading.proofs.store.load_edges.Given as goal
 
 abbrev pub invariant-loop-i : goal.invariant-loop-i
 invariant-loop-i l =
-    (loaded at_binary64 stored (pool l.points l.marks) l.i (drop l.i (edges_of l.ends l.labels)) ≡ loaded at_binary64 stored (pool l.initial.points l.initial.marks) 0 (edges_of l.ends l.labels))
-    × (l.n ≡ length (edges_of l.ends l.labels))
-    × (l.n ≤ length l.ends)
-    × (l.n ≤ length l.labels)
-    × (l.i ≤ l.n)
-    × (length l.points ≡ length l.initial.points)
-    × (length l.marks ≡ length l.initial.marks)
-
-abbrev pub decreases-loop-i : goal.decreases-loop-i
-decreases-loop-i l = l.n - l.i
+    loaded at_binary64 stored (pool l.points l.marks) l.i (drop l.i (edges_of l.ends l.labels)) ≡ loaded at_binary64 stored (pool l.initial.points l.initial.marks) 0 (edges_of l.ends l.labels)

@@ -2,10 +2,10 @@
 use Rattle.neighbours.specs.Neighbours.{met_by}
 use Rattle.neighbours.proofs.meeting.met.Goals as goal
 
-pub returns-in-Going : goal.returns-in-Going
+pub returns-in-Ok : goal.returns-in-Ok
 unfolding met_by
-returns-in-Going c = rw c.in-Going.is
+returns-in-Ok c = rw c.in-Ok.is
 
-pub returns-in-Stopped : goal.returns-in-Stopped
+pub returns-in-Err : goal.returns-in-Err
 unfolding met_by
-returns-in-Stopped c = rw c.in-Stopped.is
+returns-in-Err c = rw c.in-Err.is

@@ -7,12 +7,12 @@ use Rattle.neighbours.proofs.step.cut_on.Goals as goal
 
 pub overflow_sub-first : goal.overflow_sub-first
 overflow_sub-first c =
-    omega (arith, grown _ _ _ _ _ _ _ _ _ c.cut-first.ensures c.in-Going.is)
+    omega (arith, grown _ _ _ _ _ _ _ _ _ c.cut-first.ensures c.in-Ok.is)
 
-pub returns-in-Going : goal.returns-in-Going
-returns-in-Going c =
-    let new : c.cut-first.result.used - 1 ≡ c.args.used + 1 = omega (arith, grown _ _ _ _ _ _ _ _ _ c.cut-first.ensures c.in-Going.is) in
-    then-on _ _ _ _ _ _ _ _ _ c.cut-first.ensures _ _ _ c.in-Going.is (rw new at c.cut.ensures)
+pub returns-in-Ok : goal.returns-in-Ok
+returns-in-Ok c =
+    let new : c.cut-first.result.used - 1 ≡ c.args.used + 1 = omega (arith, grown _ _ _ _ _ _ _ _ _ c.cut-first.ensures c.in-Ok.is) in
+    then-on _ _ _ _ _ _ _ _ _ c.cut-first.ensures _ _ _ c.in-Ok.is (rw new at c.cut.ensures)
 
-pub returns-in-Stopped : goal.returns-in-Stopped
-returns-in-Stopped c = then-stopped _ _ _ _ _ _ _ _ _ c.cut-first.ensures _ _ _ c.in-Stopped.is
+pub returns-in-Err : goal.returns-in-Err
+returns-in-Err c = then-stopped _ _ _ _ _ _ _ _ _ c.cut-first.ensures _ _ _ c.in-Err.is

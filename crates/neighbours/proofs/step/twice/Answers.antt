@@ -2,8 +2,8 @@
 use Rattle.neighbours.proofs.Steps.{then-on, then-stopped}
 use Rattle.neighbours.proofs.step.twice.Goals as goal
 
-pub returns-in-Going : goal.returns-in-Going
-returns-in-Going c = then-on _ _ _ _ _ _ _ _ _ c.cut-first.ensures _ _ _ c.in-Going.is c.cut.ensures
+pub returns-in-Ok : goal.returns-in-Ok
+returns-in-Ok c = then-on _ _ _ _ _ _ _ _ _ c.cut-first.ensures _ _ _ c.in-Ok.is c.cut.ensures
 
-pub returns-in-Stopped : goal.returns-in-Stopped
-returns-in-Stopped c = then-stopped _ _ _ _ _ _ _ _ _ c.cut-first.ensures _ _ _ c.in-Stopped.is
+pub returns-in-Err : goal.returns-in-Err
+returns-in-Err c = then-stopped _ _ _ _ _ _ _ _ _ c.cut-first.ensures _ _ _ c.in-Err.is

@@ -1,4 +1,4 @@
--- The rows of the two halves of x come to the product, and it fits beside the five that may be there.
+-- The two rows are one product, and it fits beside the five that may be there.
 use Prim.Native.Nat.{ℕ, ◌≤◌, ◌+◌, ◌*◌, ◌^◌, ◌/◌, ◌%◌, ◌<◌}
 use native.Mathlib.Omega.{arith}
 use mathlib.Core.List.{List}
@@ -11,20 +11,17 @@ fits : (acc : List ℕ) (x y shift : ℕ) → Within 5 acc → (x < 2 ^ 53) × (
     → value acc + x % 2 ^ 32 * (y * 2 ^ (shift % 32)) * weight (shift / 32) + x / 2 ^ 32 * (y * 2 ^ (shift % 32)) * weight (shift / 32 + 1) < weight words
 fits acc x y shift w b = room _ _ _ _ cap _ w.room (product-sum x y shift) (product-cap b.0 b.1 b.2) six-caps
 
-pub add_row-requires : goal.add_row-requires
-add_row-requires c =
+pub add_row-requires-clause-q_bound_2 : goal.add_row-requires-clause-q_bound_2
+add_row-requires-clause-q_bound_2 c =
     let y = c.spread-t.ensures in
-    record { long = c.requires.within.long; q_bound = (omega arith, omega arith, y.small_three); q_bound_2 = rw y.c_value (omega (arith, fits c.args.acc c.args.x c.args.y c.args.shift c.requires.within c.requires.x_bound)) }
+    rw y.c_value (omega (arith, fits c.args.acc c.args.x c.args.y c.args.shift c.requires.within c.requires.x_bound))
 
-pub add_row-requires-2 : goal.add_row-requires-2
-add_row-requires-2 c =
+pub add_row-requires-2-clause-q_bound_2 : goal.add_row-requires-2-clause-q_bound_2
+add_row-requires-2-clause-q_bound_2 c =
     let y = c.spread-t.ensures in
-    let low = c.add_row.ensures in
-    record { long = low.long_2; q_bound = (omega arith, omega arith, y.small_three); q_bound_2 = rw y.c_value (omega (arith, rw y.c_value at low.acc_after, fits c.args.acc c.args.x c.args.y c.args.shift c.requires.within c.requires.x_bound)) }
+    rw y.c_value (omega (arith, rw y.c_value at c.add_row.ensures.acc_after, fits c.args.acc c.args.x c.args.y c.args.shift c.requires.within c.requires.x_bound))
 
-pub returns : goal.returns
-returns c =
+pub returns-clause-result_value : goal.returns-clause-result_value
+returns-clause-result_value c =
     let y = c.spread-t.ensures in
-    let low = c.add_row.ensures in
-    let high = c.add_row-2.ensures in
-    record { long = high.long_2; result_value = omega (arith, rw y.c_value at high.acc_after, rw y.c_value at low.acc_after, product-sum c.args.x c.args.y c.args.shift) }
+    omega (arith, rw y.c_value at c.add_row-2.ensures.acc_after, rw y.c_value at c.add_row.ensures.acc_after, product-sum c.args.x c.args.y c.args.shift)

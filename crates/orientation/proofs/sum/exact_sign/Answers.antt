@@ -1,19 +1,7 @@
--- The three cross products are added one after the other; each finds room, and together they are the area.
+-- The three cross products are added one after the other, and together they are the area.
 use mathlib.Core.Path.{◌∙◌}
-use lib.Dec.{lit≤}
-use Rattle.orientation.proofs.Areas.{fewer, after, and, area}
+use Rattle.orientation.proofs.Areas.{and, area}
 use Rattle.orientation.proofs.sum.exact_sign.Goals as goal
-
-pub add_cross-requires : goal.add_cross-requires
-add_cross-requires c = fewer (lit≤ tt) (c.nothing-pos.ensures, c.nothing-neg.ensures)
-
-pub add_cross-requires-2 : goal.add_cross-requires-2
-add_cross-requires-2 c =
-    fewer (lit≤ tt) (after (c.nothing-pos.ensures, c.nothing-neg.ensures) c.add_cross.ensures)
-
-pub add_cross-requires-3 : goal.add_cross-requires-3
-add_cross-requires-3 c =
-    after (after (c.nothing-pos.ensures, c.nothing-neg.ensures) c.add_cross.ensures) c.add_cross-2.ensures
 
 pub returns : goal.returns
 returns c =

@@ -1,12 +1,8 @@
 -- The front of order is what was seen of the list.
-use Prim.Native.Nat.{◌-◌}
-use lib.ListN.{length}
+use lib.ListN.{take}
 use Rattle.events.specs.Pool.{pool}
-use Rattle.positions.proofs.AsListed.{Copying}
+use Rattle.positions.specs.Steps.{Copied}
 use Rattle.positions.proofs.listed.copy_results.Given as goal
 
-abbrev pub invariant-loop-i : goal.invariant-loop-i
-invariant-loop-i l = Copying (pool l.points l.marks) l.list l.initial.order l.i l.order l.n
-
-abbrev pub decreases-loop-i : goal.decreases-loop-i
-decreases-loop-i l = length l.list - l.i
+abbrev pub invariant-loop-r : goal.invariant-loop-r
+invariant-loop-r l = Copied (pool l.points l.marks) (take l.r-index l.list) l.initial.order l.order l.n

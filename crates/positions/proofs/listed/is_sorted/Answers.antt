@@ -1,21 +1,15 @@
-use native.Mathlib.Omega.{arith}
-use mathlib.Core.Path.{refl, sym, ◌∙◌}
-use Rattle.positions.proofs.Sorted.{earlier-is}
-use Rattle.positions.proofs.AsListed.{sorted-stop, sorted_more, sorted-end}
+-- Each is asked whether it is before the next, by the order of event keys.
+use Rattle.std.proofs.Common.{rules}
+use Rattle.std.proofs.lemmas.Fn.{always_returns_same}
+use Rattle.events.specs.Pool.{pool}
+use Rattle.order.specs.Keys.{key_at}
+use Rattle.contours.specs.Result.{earlier}
+use Rattle.positions.specs.Steps.{earlier_in}
+use Rattle.positions.proofs.AsListed.{sorted-is}
 use Rattle.positions.proofs.listed.is_sorted.Goals as goal
 
-pub loop-i-init : goal.loop-i-init
-loop-i-init c = (refl, omega arith)
-
-pub returns-then-not-before_at : goal.returns-then-not-before_at
-returns-then-not-before_at c =
-    sorted-stop _ _ _ c.requires _ _ c.loop-i.invariant.0 c.loop-i-test.true (sym (earlier-is _ _ _ _ c.before_at.ensures) ∙ c.if-not-before_at.true)
-
-pub loop-i-preserved : goal.loop-i-preserved
-loop-i-preserved c = (
-  sorted_more _ _ _ c.requires _ _ c.loop-i.invariant.0 c.loop-i-test.true (sym (earlier-is _ _ _ _ c.before_at.ensures) ∙ c.if-not-before_at.false),
-  omega arith,
-)
-
 pub returns : goal.returns
-returns c = sorted-end _ _ _ c.requires _ _ c.loop-i.invariant.0 c.loop-i-test.false
+unfolding earlier_in earlier key_at
+returns c =
+    let f = earlier_in (pool c.args.points.now c.args.marks.now) in
+    sorted-is f _ _ (c.is_sorted_by.ensures.cases f (always_returns_same _ _ _ (λ a r q h. search rules)))

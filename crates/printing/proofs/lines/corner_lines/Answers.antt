@@ -1,35 +1,16 @@
-use borrow.Author.Rules.{rules}
-use mathlib.Core.Path.{refl, sym, ◌∙◌}
 use native.Mathlib.Omega.{arith}
-use Rattle.view.proofs.Parts.{found_within}
+use mathlib.Core.List.{[]}
+use Rattle.printing.proofs.Parts.{corner-each}
+use Rattle.printing.specs.Arrays.{corner_of}
 use Rattle.printing.proofs.Goings.{begun, on, done}
-use Rattle.printing.proofs.Parts.{corner-on, corner-end}
 use Rattle.printing.proofs.lines.corner_lines.Goals as goal
 
-pub loop-p-init : goal.loop-p-init
-loop-p-init c =
-    let a = c.args in
-    (begun a.out.now a.at _ _ refl (omega arith) (omega arith), search rules, search rules)
+pub loop-corner-init : goal.loop-corner-init
+loop-corner-init c = begun corner-each c.args.corners.now c.args.out.now c.args.at (omega arith)
 
-pub returns-in-Nothing : goal.returns-in-Nothing
-returns-in-Nothing c =
-    let l = c.loop-p in
-    done l.invariant.0 (corner-end _ l.i (sym c.corner_shown.ensures ∙ c.in-Nothing.is))
+pub loop-corner-preserved : goal.loop-corner-preserved
+unfolding corner_of
+loop-corner-preserved c = on corner-each c.args.corners.now c.loop-corner.corner-index [] c.loop-corner-test.true (omega arith) c.loop-corner.invariant c.corner_line-place.ensures
 
--- a corner that was found is within them
-pub overflow_add-i : goal.overflow_add-i
-overflow_add-i c =
-    let within = found_within _ c.loop-p.i _ (sym c.corner_shown.ensures ∙ c.in-At.is) in
-    omega (arith, within.0)
-
-pub loop-p-smaller : goal.loop-p-smaller
-loop-p-smaller c =
-    let within = found_within _ c.loop-p.i _ (sym c.corner_shown.ensures ∙ c.in-At.is) in
-    omega (arith, within.0)
-
-pub loop-p-preserved : goal.loop-p-preserved
-loop-p-preserved c =
-    let l = c.loop-p in
-    let found = sym c.corner_shown.ensures ∙ c.in-At.is in
-    let within = found_within _ l.i _ found in
-    (on l.invariant.0 _ _ (corner-on _ l.i _ found) c.corner_line-place.ensures, c.corner_line-place.auto.out ∙ l.invariant.1, omega (arith, within.0))
+pub returns : goal.returns
+returns c = done corner-each c.args.corners.now c.loop-corner.corner-index c.loop-corner-test.false c.loop-corner.invariant

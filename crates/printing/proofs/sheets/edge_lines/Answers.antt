@@ -1,21 +1,14 @@
-use borrow.Author.Rules.{rules}
-use mathlib.Core.Path.{refl, ◌∙◌}
 use native.Mathlib.Omega.{arith}
+use mathlib.Core.List.{[]}
+use Rattle.printing.proofs.Layers.{edge-each}
 use Rattle.printing.proofs.Goings.{begun, on, done}
-use Rattle.printing.proofs.Layers.{edge_on, edge-end}
 use Rattle.printing.proofs.sheets.edge_lines.Goals as goal
 
-pub loop-i-init : goal.loop-i-init
-loop-i-init c =
-    let a = c.args in
-    (begun a.out.now a.at _ _ refl (omega arith) (omega arith), search rules, search rules)
+pub loop-row-init : goal.loop-row-init
+loop-row-init c = begun edge-each c.args.rows.now c.args.out.now c.args.at (omega arith)
 
-pub loop-i-preserved : goal.loop-i-preserved
-loop-i-preserved c =
-    let l = c.loop-i in
-    (on l.invariant.0 _ _ (edge_on c.args.rows.now l.i c.loop-i-test.true) c.edge_line-place.ensures, c.edge_line-place.auto.out ∙ l.invariant.1, search rules)
+pub loop-row-preserved : goal.loop-row-preserved
+loop-row-preserved c = on edge-each c.args.rows.now c.loop-row.row-index [] c.loop-row-test.true (omega arith) c.loop-row.invariant c.edge_line-place.ensures
 
 pub returns : goal.returns
-returns c =
-    let l = c.loop-i in
-    done l.invariant.0 (edge-end c.args.rows.now l.i c.loop-i-test.false)
+returns c = done edge-each c.args.rows.now c.loop-row.row-index c.loop-row-test.false c.loop-row.invariant

@@ -1,18 +1,10 @@
--- The invariant: the lines that are left, put from where the last one ended, give all of them.
-use mathlib.Core.Path.{◌≡◌}
+-- The invariant: the lines so far are put.
 use mathlib.Core.List.{map}
-use Prim.Native.Nat.{◌-◌, ◌≤◌}
-use lib.ListN.{length, drop}
+use lib.ListN.{take}
 use Rattle.sheet.specs.Sheet.{edge_lines}
 use Rattle.sheet.specs.Stored.{edge_of_row}
-use Rattle.printing.proofs.Goings.{Going}
+use Rattle.printing.specs.Put.{Put}
 use Rattle.printing.proofs.sheets.edge_lines.Given as goal
 
-abbrev pub invariant-loop-i : goal.invariant-loop-i
-invariant-loop-i l =
-    Going l.initial.out l.at (edge_lines (map edge_of_row l.rows)) l.out l.place (edge_lines (map edge_of_row (drop l.i l.rows)))
-    × (length l.out ≡ length l.initial.out)
-    × (l.i ≤ length l.rows)
-
-abbrev pub decreases-loop-i : goal.decreases-loop-i
-decreases-loop-i l = length l.rows - l.i
+abbrev pub invariant-loop-row : goal.invariant-loop-row
+invariant-loop-row l = Put l.initial.out l.at (edge_lines (map edge_of_row (take l.row-index l.rows))) l.out l.place

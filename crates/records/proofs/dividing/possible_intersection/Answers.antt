@@ -2,11 +2,11 @@
 use Rattle.records.specs.Dividing.{possible_intersection}
 use Rattle.records.proofs.dividing.possible_intersection.Goals as goal
 
-pub returns-in-Refused : goal.returns-in-Refused
+pub returns-in-Err : goal.returns-in-Err
 unfolding possible_intersection
-returns-in-Refused c = rw (← c.check_left_two_in.ensures, c.in-Refused.is)
+returns-in-Err c = rw (← c.check_left_two_in.ensures, c.in-Err.is)
 
-pub returns-in-Passed : goal.returns-in-Passed
+pub returns-in-Ok : goal.returns-in-Ok
 unfolding possible_intersection
-returns-in-Passed c =
-    rw (← c.check_left_two_in.ensures, c.in-Passed.is, c.possible_intersection.ensures)
+returns-in-Ok c =
+    rw (← c.check_left_two_in.ensures, c.in-Ok.is, c.possible_intersection.ensures)

@@ -6,6 +6,3 @@ use Rattle.round.proofs.block.block_end.Given as goal
 
 abbrev pub invariant-loop-j : goal.invariant-loop-j
 invariant-loop-j l = block_end l.at l.p l.j (l.e - l.j) ≡ block_end l.at l.p l.i (l.e - l.i)
-
-abbrev pub decreases-loop-j : goal.decreases-loop-j
-decreases-loop-j l = l.e - l.j

@@ -5,6 +5,3 @@ use Rattle.round.proofs.block.block_start.Given as goal
 
 abbrev pub invariant-loop-j : goal.invariant-loop-j
 invariant-loop-j l = block_start l.at l.p l.j ≡ block_start l.at l.p l.i
-
-abbrev pub decreases-loop-j : goal.decreases-loop-j
-decreases-loop-j l = l.j

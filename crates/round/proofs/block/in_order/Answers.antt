@@ -1,15 +1,15 @@
+-- The answer at each position.
+use borrow.Author.Rules.{rules}
+use mathlib.Core.Path.{refl, ◌∙◌}
 use native.Mathlib.Nat.{sub-zero}
-use Rattle.round.proofs.Blocks.{order-on, order-not, order-end}
+use Rattle.std.proofs.lemmas.Iterator.{YieldsList-from_range}
+use Rattle.std.proofs.lemmas.Iterator.Search.{all_from_yields_List}
+use Rattle.round.specs.Block.{stands}
+use Rattle.round.proofs.Blocks.{order_is}
 use Rattle.round.proofs.block.in_order.Goals as goal
 
-pub loop-i-init : goal.loop-i-init
-loop-i-init c = rw sub-zero
-
-pub loop-i-preserved : goal.loop-i-preserved
-loop-i-preserved c = order-on _ _ _ _ c.loop-i-test.true c.loop-i.invariant _ c.stands_at.ensures c.if-stands_at.true
-
-pub returns-else-stands_at : goal.returns-else-stands_at
-returns-else-stands_at c = order-not _ _ _ _ c.loop-i-test.true c.loop-i.invariant _ c.stands_at.ensures c.if-stands_at.false
-
 pub returns : goal.returns
-returns c = order-end _ _ _ _ c.loop-i-test.false c.loop-i.invariant
+returns c =
+    let a = c.args in
+    all_from_yields_List (stands a.at.now) _ _ _ c.all.ensures.ran (YieldsList-from_range 0 a.n a.n refl (sub-zero a.n)) (λ x b q k. search rules)
+    ∙ order_is a.at.now 0 a.n

@@ -21,16 +21,16 @@ pub returns-then-v-most : goal.returns-then-v-most
 returns-then-v-most c =
     let args = c.args in
     count-many args.s.now args.at _ args.most c.if-n-eq0.false _ c.after-end.ensures (sym c.is_over.ensures ∙ c.if-not-is_over.false)
-    _ c.read_decimal.ensures _ c.in-Value.is c.if-v-most.true
+    _ c.read_decimal.ensures _ c.in-Some.is c.if-v-most.true
 
 pub returns-then-has_word : goal.returns-then-has_word
 returns-then-has_word c =
     let args = c.args in
     count-read args.s.now args.at _ args.most c.if-n-eq0.false _ c.after-end.ensures (sym c.is_over.ensures ∙ c.if-not-is_over.false)
-    _ c.read_decimal.ensures _ c.in-Value.is c.if-v-most.false (sym c.has_word.ensures ∙ c.if-has_word.true) _ c.after.ensures
+    _ c.read_decimal.ensures _ c.in-Some.is c.if-v-most.false (sym c.has_word.ensures ∙ c.if-has_word.true) _ c.after.ensures
 
 pub returns : goal.returns
 returns c =
     let args = c.args in
     count_cut args.s.now args.at _ args.most c.if-n-eq0.false _ c.after-end.ensures (sym c.is_over.ensures ∙ c.if-not-is_over.false)
-    _ c.read_decimal.ensures _ c.in-Value.is c.if-v-most.false (sym c.has_word.ensures ∙ c.if-has_word.false)
+    _ c.read_decimal.ensures _ c.in-Some.is c.if-v-most.false (sym c.has_word.ensures ∙ c.if-has_word.false)

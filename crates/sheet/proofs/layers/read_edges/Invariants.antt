@@ -2,7 +2,7 @@
 -- further on, give the whole store.
 use mathlib.Core.Path.{◌≡◌}
 use mathlib.Core.List.{map}
-use Prim.Native.Nat.{◌+◌, ◌-◌, ◌≤◌}
+use Prim.Native.Nat.{◌+◌, ◌-◌}
 use lib.ListN.{length, drop}
 use lib.Seq.{sets}
 use Rattle.sheet.specs.Reading.{edges_of}
@@ -14,8 +14,3 @@ invariant-loop-read l =
     (l.read + length (edges_of (l.count - l.read) (drop l.line l.s)).list ≡ length (edges_of l.count (drop l.at l.s)).list)
     × ((edges_of (l.count - l.read) (drop l.line l.s)).rest ≡ (edges_of l.count (drop l.at l.s)).rest)
     × (sets l.rows (l.place + l.read) (map row_of (edges_of (l.count - l.read) (drop l.line l.s)).list) ≡ sets l.initial.rows l.place (map row_of (edges_of l.count (drop l.at l.s)).list))
-    × (length l.rows ≡ length l.initial.rows)
-    × (l.read ≤ l.count)
-
-abbrev pub decreases-loop-read : goal.decreases-loop-read
-decreases-loop-read l = l.count - l.read

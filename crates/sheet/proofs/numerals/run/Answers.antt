@@ -1,26 +1,18 @@
-use native.Mathlib.Omega.{arith}
-use Rattle.sheet.proofs.Digits.{is-so, fewer-left, counted, count_fits, counted_none, counted-all}
+-- The digits counted are those that stand in front of the rest.
+use borrow.Author.Rules.{rules}
+use mathlib.Core.Path.{◌∙◌}
+use lib.ListN.{drop}
+use Rattle.std.specs.Char.{is_ascii_digit}
+use Rattle.std.proofs.lemmas.Iterator.{YieldsList-from_slice}
+use Rattle.std.proofs.lemmas.Iterator.Consumers.{count_from_yields_List}
+use Rattle.std.proofs.lemmas.Iterator.Search.{YieldsList-from_take_while}
+use Rattle.std.proofs.lemmas.List.Folds.{length-prefix_len}
+use Rattle.sheet.proofs.Digits.{run_is}
 use Rattle.sheet.proofs.numerals.run.Goals as goal
-
-pub overflow_add-n : goal.overflow_add-n
-overflow_add-n c =
-    let a = c.args in
-    omega (arith, count_fits a.s.now a.at c.loop-n.n (is-so _ _ _ c.byte_at.ensures c.is_digit.ensures c.loop-n-test.true) c.loop-n.invariant)
-
-pub loop-n-smaller : goal.loop-n-smaller
-loop-n-smaller c =
-    let a = c.args in
-    fewer-left a.s.now a.at c.loop-n.n (is-so _ _ _ c.byte_at.ensures c.is_digit.ensures c.loop-n-test.true)
-
-pub loop-n-preserved : goal.loop-n-preserved
-loop-n-preserved c =
-    let a = c.args in
-    counted a.s.now a.at c.loop-n.n (is-so _ _ _ c.byte_at.ensures c.is_digit.ensures c.loop-n-test.true) c.loop-n.invariant
 
 pub returns : goal.returns
 returns c =
-    let a = c.args in
-    counted-all a.s.now a.at c.loop-n.n (is-so _ _ _ c.byte_at.ensures c.is_digit.ensures c.loop-n-test.false) c.loop-n.invariant
-
-pub loop-n-init : goal.loop-n-init
-loop-n-init c = counted_none c.args.s.now c.args.at
+    let rest = drop c.args.at c.args.s.now in
+    count_from_yields_List _ _ c.count.ensures.ran (YieldsList-from_take_while _ is_ascii_digit (YieldsList-from_slice rest (search rules)) c.take_while.ensures.closure c.take_while.ensures.done (λ x b q k. search rules))
+    ∙ length-prefix_len is_ascii_digit rest
+    ∙ run_is rest

@@ -4,6 +4,3 @@ use Rattle.sweep.proofs.event.lowest_at.Goals as goal
 
 pub returns-then-k-eq0 : goal.returns-then-k-eq0
 returns-then-k-eq0 c = lowest-none _ _ c.if-k-eq0.true
-
-pub returns : goal.returns
-returns c = c.below_at.ensures

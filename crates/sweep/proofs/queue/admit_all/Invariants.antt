@@ -9,12 +9,8 @@ use Rattle.waiting.specs.Queue as Queue
 use Rattle.sweep.proofs.queue.admit_all.Given as goal
 
 abbrev pub invariant-loop-r : goal.invariant-loop-r
-invariant-loop-r l =
-    (take l.last l.queue ≡ Queue.admitted (λ i. (look stored (pool l.points l.marks) l.used i).partner) l.from (flagged l.waits) (before_used (pool l.points l.marks) l.used) (length l.initial.queue) (l.r - l.from) (take l.n l.initial.queue))
-    × (l.last ≤ length l.queue)
-    × (length l.queue ≡ length l.initial.queue)
-    × (l.from ≤ l.r)
-    × (l.r - l.from ≤ l.used - l.from)
-
-abbrev pub decreases-loop-r : goal.decreases-loop-r
-decreases-loop-r l = l.used - l.r
+invariant-loop-r l = record {
+  admitted : take l.last l.queue ≡ Queue.admitted (λ i. (look stored (pool l.points l.marks) l.used i).partner) l.from (flagged l.waits) (before_used (pool l.points l.marks) l.used) (length l.initial.queue) (l.r - l.from) (take l.n l.initial.queue);
+  within : l.last ≤ length l.queue;
+  counted : l.r - l.from ≤ l.used - l.from;
+}

@@ -11,6 +11,3 @@ returns-then-has_x c =
 pub returns-then-has_x-2 : goal.returns-then-has_x-2
 returns-then-has_x-2 c =
     sym (led-right _ _ _ _ _ _ c.requires (rw (← c.read_used-e.ensures) (omega (arith, c.read_used-e.type_inv))) (rw (← c.read_used-e.ensures) (sym c.has_x-2.ensures ∙ c.if-has_x-2.true)))
-
-pub returns : goal.returns
-returns c = c.leads.ensures

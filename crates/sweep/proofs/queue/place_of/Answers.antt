@@ -12,9 +12,6 @@ loop-lo-init c = (
   rw (← c.read_used-e.ensures) (sides _ _ _ (omega (arith, c.read_used-e.type_inv)) c.lower_x-left.ensures c.higher_x-right.ensures),
 )
 
-pub leads_by-requires : goal.leads_by-requires
-leads_by-requires c = c.loop-lo.invariant.4
-
 pub loop-lo-preserved-then-leads_by : goal.loop-lo-preserved-then-leads_by
 loop-lo-preserved-then-leads_by c =
     let l = c.loop-lo in (
@@ -35,5 +32,5 @@ loop-lo-preserved c =
       l.invariant.4,
     )
 
-pub returns : goal.returns
-returns c = record { value = halved-end _ _ _ _ _ _ c.loop-lo-test.false c.loop-lo.invariant.0; upper_bound = omega arith }
+pub returns-clause-value : goal.returns-clause-value
+returns-clause-value c = halved-end _ _ _ _ _ _ c.loop-lo-test.false c.loop-lo.invariant.0

@@ -9,13 +9,13 @@ use Rattle.sweep.proofs.Runs.{step-none, step-some, next-waits, taking-room, wor
 use Rattle.sweep.proofs.run.step.Goals as goal
 
 pub take_event-u-requires : goal.take_event-u-requires
-take_event-u-requires c = taking-room _ c.args.status.now _ _ _ c.requires.0 (next-waits _ _ _ _ (sym (c.below_at.ensures ∙ next-at c.requires.1 [] []) ∙ c.in-To.is))
+take_event-u-requires c = taking-room _ c.args.status.now _ _ _ c.requires.0 (next-waits _ _ _ _ (sym (c.below_at.ensures ∙ next-at c.requires.1 [] []) ∙ c.in-Some.is))
 
 pub work-v-requires : goal.work-v-requires
-work-v-requires c = working-room _ _ c.args.taken.now _ _ c.requires.0 (next-waits _ _ _ _ (sym (c.below_at.ensures ∙ next-at c.requires.1 [] []) ∙ c.in-To.is)) _ _ c.take_event-u.ensures.value
+work-v-requires c = working-room _ _ c.args.taken.now _ _ c.requires.0 (next-waits _ _ _ _ (sym (c.below_at.ensures ∙ next-at c.requires.1 [] []) ∙ c.in-Some.is)) _ _ c.take_event-u.ensures.value
 
 pub overflow_sub-t : goal.overflow_sub-t
-overflow_sub-t c = some-wait c.requires.1 [] [] _ (sym (c.below_at.ensures ∙ next-at c.requires.1 [] []) ∙ c.in-To.is)
+overflow_sub-t c = some-wait c.requires.1 [] [] _ (sym (c.below_at.ensures ∙ next-at c.requires.1 [] []) ∙ c.in-Some.is)
 
 pub requeue-m-requires : goal.requeue-m-requires
 requeue-m-requires c = queue-room _ _ _ _ c.requires.1
@@ -23,13 +23,13 @@ requeue-m-requires c = queue-room _ _ _ _ c.requires.1
 pub returns-in-None : goal.returns-in-None
 returns-in-None c = record { result_after = step-none _ _ _ _ _ _ _ _ _ (c.below_at.ensures ∙ next-at c.requires.1 _ _) _ c.in-None.is c.end.ensures; fits = (fits-ended _ _ c.end.ensures _ _ _ c.requires.0, beyond-ended _ _ c.end.ensures _); queues = subst (Queues _ _ _) (sym c.end.ensures) (ended_at c.requires.1) }
 
-pub returns-in-To : goal.returns-in-To
-returns-in-To c =
+pub returns-in-Some : goal.returns-in-Some
+returns-in-Some c =
     let t = c.args.t in
     let q = c.requires.1 in
     let l = take t.members c.args.status.now in
     let k = take t.count c.args.taken.now in
-    let e = c.in-To.is in
+    let e = c.in-Some.is in
     let is = c.below_at.ensures ∙ next-at q l k in
     let found = sym is ∙ e in
     let wait = next-waits _ _ _ _ found in
@@ -47,21 +47,3 @@ returns-in-To c =
       );
       queues = step-at q l k _ _ _ _ found _ _ _ _ _ _ turned (queue-lined _ _ _ line _ _ _ _ _ _ c.requeue-m.ensures.queue_after) (within-lined _ _ _ line _ c.requeue-m.ensures.upper_bound) c.requeue-m.auto.queue;
     }
-
-pub shape_of-points : goal.shape_of-points
-shape_of-points c = c.work-v.auto.points
-
-pub shape_of-marks : goal.shape_of-marks
-shape_of-marks c = c.work-v.auto.marks
-
-pub shape_of-waits : goal.shape_of-waits
-shape_of-waits c = c.take_event-u.auto.waits
-
-pub shape_of-queue-in-To : goal.shape_of-queue-in-To
-shape_of-queue-in-To c = c.requeue-m.auto.queue
-
-pub shape_of-status : goal.shape_of-status
-shape_of-status c = c.work-v.auto.status
-
-pub shape_of-taken : goal.shape_of-taken
-shape_of-taken c = c.take_event-u.auto.taken

@@ -1,12 +1,8 @@
--- The invariant: the members from the first place asked up to i are passed.
-use mathlib.Core.Path.{◌≡◌}
-use Prim.Native.Nat.{◌+◌, ◌-◌, ◌≤◌}
+-- The invariant: the members of the pairs before the k-th are passed.
+use Prim.Native.Nat.{◌+◌, ◌*◌}
 use Rattle.events.specs.Pool.{pool}
 use Rattle.sweep_events.specs.Clear.{AllPassed}
 use Rattle.sweep_events.proofs.clear.after_pairs.Given as goal
 
-abbrev pub invariant-loop-i : goal.invariant-loop-i
-invariant-loop-i l = (l.last + 1 ≡ l.end) × (l.from ≤ l.i) × (l.i ≤ l.end) × AllPassed (pool l.points l.marks) l.used l.bounds l.status l.from l.i
-
-abbrev pub decreases-loop-i : goal.decreases-loop-i
-decreases-loop-i l = l.end - l.i
+abbrev pub invariant-loop-k : goal.invariant-loop-k
+invariant-loop-k l = AllPassed (pool l.points l.marks) l.used l.bounds l.status l.from (l.from + 2 * l.k)

@@ -1,15 +1,26 @@
-use Prim.Native.Nat.{◌+◌}
+use mathlib.Core.Path.{◌≡◌}
+use mathlib.Core.Bool.{Bool, false, cond}
+use Prim.Native.Nat.{ℕ, ◌+◌}
 use native.Mathlib.Omega.{arith}
+use lib.Dec.{eqb}
 use lib.ListN.{length-take}
+use Rattle.numbers.specs.declared.Point.{Point}
+use Rattle.events.specs.Binary64.{at_binary64}
+use Rattle.events.specs.Coordinates.{Crossing}
+use Rattle.events.specs.Event.{Key}
+use Rattle.events.specs.Pool.{Pool, stored}
+use Rattle.order.specs.Keys.{key_used}
+use Rattle.segments.specs.Segments.{compare_segments}
+use Rattle.sweep_events.specs.Event.{is_less, is_below}
 use Rattle.lists.proofs.Slots.{begun, found, passed, ended}
-use Rattle.sweep_events.proofs.Events.{below-is}
 use Rattle.sweep_events.proofs.Passing.{after-passed}
 use Rattle.sweep_events.proofs.slots.slot_below.Goals as goal
 
-pub after_clear-i-requires : goal.after_clear-i-requires
-after_clear-i-requires c =
-    let a = c.args in
-    let q = length-take a.n a.status.now in record { ready = c.ready_of-ready.ensures; from_le_end = (omega arith, omega (arith, q, c.count-end.ensures)) }
+-- by the key of e, read once
+below-is : (crossing : Crossing Point) (s : Pool) (used e x : ℕ) (key : Key Point) (t : Bool) → key ≡ key_used stored s used e
+    → t ≡ cond (eqb e x) false (is_less (compare_segments at_binary64 crossing key (key_used stored s used x))) → t ≡ is_below at_binary64 stored crossing s used e x
+unfolding is_below
+below-is crossing s used e x key t k h = rw (← k) h
 
 pub loop-i-init : goal.loop-i-init
 loop-i-init c =
@@ -26,13 +37,6 @@ pub returns-then-goes_below : goal.returns-then-goes_below
 returns-then-goes_below c =
     let l = c.loop-i in
     found _ _ _ l.i (omega arith) l.invariant.3 (below-is _ _ _ _ _ _ _ c.key_used-key.ensures c.goes_below.ensures) c.if-goes_below.true
-
-pub after_clear-i-requires-in-loop-i : goal.after_clear-i-requires-in-loop-i
-after_clear-i-requires-in-loop-i c =
-    record { ready = c.ready_of-ready.ensures; from_le_end = (omega arith, c.loop-i.invariant.1) }
-
-pub loop-i-smaller : goal.loop-i-smaller
-loop-i-smaller c = let r = c.after_clear-i-in-loop-i.ensures in omega (arith, r.lower_bound.0, r.lower_bound.1)
 
 pub loop-i-preserved : goal.loop-i-preserved
 loop-i-preserved c =

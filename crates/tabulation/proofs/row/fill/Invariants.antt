@@ -1,7 +1,6 @@
 -- Storing the rest of the rows from here on gives what storing all of them gives.
-use Prim.Native.Nat.{◌≤◌, ◌-◌}
 use mathlib.Core.Path.{◌≡◌}
-use lib.ListN.{length, take}
+use lib.ListN.{take}
 use Rattle.events.specs.Pool.{pool}
 use Rattle.rows.specs.Rows.{lent}
 use Rattle.tabulation.specs.Steps.{puts, filled}
@@ -10,10 +9,4 @@ use Rattle.tabulation.proofs.row.fill.Given as goal
 
 abbrev pub invariant-loop-i : goal.invariant-loop-i
 invariant-loop-i l =
-    (puts (lent l.rows l.at) l.i (rest_of (pool l.points l.marks) (take l.n l.order) l.i) ≡ filled (pool l.points l.marks) (take l.n l.order) (lent l.initial.rows l.initial.at))
-    × (l.i ≤ l.n)
-    × (length l.rows ≡ length l.initial.rows)
-    × (length l.at ≡ length l.initial.at)
-
-abbrev pub decreases-loop-i : goal.decreases-loop-i
-decreases-loop-i l = l.n - l.i
+    puts (lent l.rows l.at) l.i (rest_of (pool l.points l.marks) (take l.n l.order) l.i) ≡ filled (pool l.points l.marks) (take l.n l.order) (lent l.initial.rows l.initial.at)

@@ -1,12 +1,8 @@
 -- The invariant: the first d digits are filled in.
 use mathlib.Core.Path.{◌≡◌}
-use Prim.Native.Nat.{◌-◌, ◌≤◌}
 use lib.ListN.{length}
 use Rattle.text.proofs.Table.{Filled}
 use Rattle.text.proofs.digits.digit_table.Given as goal
 
 abbrev pub invariant-loop-d : goal.invariant-loop-d
-invariant-loop-d l = Filled l.table l.d × (length l.table ≡ 256) × (l.d ≤ 16)
-
-abbrev pub decreases-loop-d : goal.decreases-loop-d
-decreases-loop-d l = 16 - l.d
+invariant-loop-d l = Filled l.table l.d × (length l.table ≡ 256)

@@ -1,6 +1,4 @@
-use mathlib.Core.Path.{◌≡◌, refl, sym, ap, ◌∙◌}
-use Prim.Native.Nat.{ℕ, ◌+◌, ◌-◌, ◌%◌, ◌≤◌, ◌<◌}
-use lib.ListN.{set, get_or}
+use Rattle.std.proofs.Common.{ℕ, ◌≡◌, ◌<◌, ◌≤◌, ◌%◌, get_or, arith, sym, ◌∙◌}
 use Rattle.text.specs.Digits.{digit}
 use Rattle.text.proofs.Bytes.{listed, byte_of}
 use Rattle.text.proofs.Writing.{digit-on, digit-end, remainder-small}
@@ -15,17 +13,7 @@ unfolding listed digit
 loop-k-preserved c =
     let l = c.loop-k in
     let a = c.args in
-    let pre = c.requires in
-    let stored : c.put_byte.new.buf ≡ set l.buf (a.at + (l.k - 1)) (digit (l.v % a.base)) = c.put_byte.ensures ∙ ap (set l.buf (a.at + (l.k - 1))) (found a.base l.v pre.0 pre.1) in (
-      rw stored (sym (digit-on _ _ _ _ _ c.loop-k-test.true) ∙ l.invariant.0),
-      c.put_byte.auto.buf ∙ l.invariant.1,
-    )
-
-pub loop-k-init : goal.loop-k-init
-loop-k-init c = (refl, refl)
-
-pub bounds-bytes-v : goal.bounds-bytes-v
-bounds-bytes-v c = remainder-small _ _ c.requires.0 c.requires.1
+    rw (c.put_byte.ensures, found a.base l.v c.requires.0 c.requires.1) (sym (digit-on _ _ _ _ _ (omega arith)) ∙ l.invariant)
 
 pub returns : goal.returns
-returns c = sym (digit-end _ _ _ _ _ c.loop-k-test.false) ∙ c.loop-k.invariant.0
+returns c = sym (digit-end _ _ _ _ _ (omega arith)) ∙ c.loop-k.invariant

@@ -1,0 +1,2 @@
+-- No two reasons have one number.
+pub mod Numbers

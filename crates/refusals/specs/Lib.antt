@@ -1,0 +1,2 @@
+-- What a refused call tells.
+pub mod Refusals
