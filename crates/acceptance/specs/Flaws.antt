@@ -11,7 +11,7 @@ use Rattle.acceptance.specs.declared.flaws.Flaw.{Flaw}
 use Rattle.acceptance.specs.declared.flaws.Flaw.TheVariants.{Misplaced, HalfListed}
 use Rattle.acceptance.specs.Seen.{seen_at}
 
--- the number of the refusal
+-- the reason of the refusal
 unfoldable pub reason_of : Flaw → Reason
 reason_of Misplaced = Reason.Link
 reason_of HalfListed = Reason.HalfEdge

@@ -16,7 +16,7 @@ pub enum Flaw {
     HalfListed,
 }
 
-// The number of the refusal.
+// The reason of the refusal.
 #[tactic(auto, unfolding(crate::specs::Flaws::reason_of))]
 pub fn reason_of(flaw: Flaw) -> Reason
     ensures { result ≡ reason_of flaw }

@@ -42,7 +42,7 @@ fn main(rt: HostRuntime) -> io::Result<()> {
     match arrange(&mut sheet[..n]) {
         Ok(()) => write(&rt, &sheet, n),
         Err(refusal) => {
-            let told = print_refusal(refusal, &mut sheet);
+            let told = print_refusal(u64::from(refusal.reason), refusal.place, &mut sheet);
             write(&rt, &sheet, told)
         }
     }

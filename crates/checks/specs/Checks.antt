@@ -87,7 +87,7 @@ unfoldable pub first : (ℕ → Bool) → List ℕ → ℕ
 first test [] = 0
 first test (r ∷ rs) = cond (test r) 0 (suc (first test rs))
 
--- refused by this number at the first record that the test strikes
+-- refused for this reason at the first record that the test strikes
 unfoldable pub told : Reason → (ℕ → Bool) → List ℕ → Verdict
 told reason test rs = cond (ltb (first test rs) (length rs)) (Err (record { reason = reason; place = get_or rs (first test rs) 0 })) (Ok tt)
 

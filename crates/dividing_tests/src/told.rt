@@ -4,7 +4,6 @@ use neighbours::Neighbours;
 use refusals::Refusal;
 use std::io;
 use test_pools::changes::PLACES;
-use test_pools::told::refused;
 
 fn say_if(rt: &impl Print, test: bool, text: &str) -> io::Result<()> {
     if test {
@@ -15,7 +14,7 @@ fn say_if(rt: &impl Print, test: bool, text: &str) -> io::Result<()> {
 
 pub fn division(rt: &impl Print, answer: Result<Divided, Refusal>) -> io::Result<()> {
     match answer {
-        Err(refusal) => refused(rt, refusal),
+        Err(refusal) => print!(rt; "{refusal}"),
         Ok(d) => {
             print!(rt; "right {}, left {}", d.right, d.left)?;
             say_if(rt, d.moved, ", moved")?;
@@ -27,7 +26,7 @@ pub fn division(rt: &impl Print, answer: Result<Divided, Refusal>) -> io::Result
 pub fn neighbours(rt: &impl Print, answer: Neighbours) -> io::Result<()> {
     let met = answer.met;
     match met {
-        Err(refusal) => refused(rt, refusal)?,
+        Err(refusal) => print!(rt; "{refusal}")?,
         Ok(code) => print!(rt; "code {code}")?,
     }
     print!(rt; ", in use {}", answer.used)

@@ -120,6 +120,6 @@ pub fn answer(bytes: &[u8], out: &mut [u8]) -> usize
 {
     match overlay(bytes, out) {
         Ok(n) => n,
-        Err(refusal) => print_refusal(refusal, out),
+        Err(refusal) => print_refusal(u64::from(refusal.reason), refusal.place, out),
     }
 }

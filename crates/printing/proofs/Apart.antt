@@ -18,7 +18,7 @@ use Rattle.contours.specs.Outline.{Outline}
 use Rattle.sheet.specs.Sheet.{CornerFits, count_line, number_bytes}
 use Rattle.sheet.specs.Reading.{run, numeral}
 use Rattle.sheet.proofs.Fronts.{decimal-some, run-decimal, numeral-front}
-use Rattle.printing.specs.Printing.{Drawn, parent_bytes, head_line, hole_lines, corner_line, corner_lines, contour_lines, contours_lines, drawing, drawn, printed, refusal_line}
+use Rattle.printing.specs.Printing.{Drawn, parent_bytes, head_line, hole_lines, corner_line, corner_lines, contour_lines, contours_lines, drawing, drawn, printed, refused_line, refusal_line}
 use Rattle.printing.specs.Fitting.{ParentFits, NumbersFit, CornersFit, DrawnFits, AllFit}
 
 -- ---- pieces: what stands in front, and what comes after it
@@ -166,21 +166,31 @@ begins-otherwise : (s t : List ℕ) → quoted "refused " ++ s ≡ quoted "conto
 unfolding quoted
 begins-otherwise s t e = let z : ◌≡◌ {A = ℕ} 114 99 = cc in omega arith
 
--- a refusal prints as no contours do
+-- a refusal prints as no contours do, whatever its number
+pub refused-no-drawing : (told place : ℕ) (l : List Drawn) → refused_line told place ≡ drawing l → ⊥
+unfolding refused_line drawing count_line
+refused-no-drawing told place l e =
+    begins-otherwise (decimal told ++ count_line (quoted " at ") place) ((decimal (length l) ++ (10 ∷ [])) ++ contours_lines l) (e ∙ append_assoc (quoted "contours ") (decimal (length l) ++ (10 ∷ [])) (contours_lines l))
+
 pub refusal-no-drawing : (r : Refusal) (l : List Drawn) → refusal_line r ≡ drawing l → ⊥
-unfolding refusal_line drawing count_line
-refusal-no-drawing r l e =
-    begins-otherwise (decimal (number r.reason) ++ count_line (quoted " at ") r.place) ((decimal (length l) ++ (10 ∷ [])) ++ contours_lines l) (e ∙ append_assoc (quoted "contours ") (decimal (length l) ++ (10 ∷ [])) (contours_lines l))
+unfolding refusal_line
+refusal-no-drawing r = refused-no-drawing (number r.reason) r.place
 
 at_place : (d : ℕ) → run (count_line (quoted " at ") d) ≡ 0
 unfolding run digit_of count_line quoted
 at_place d = refl
 
 -- .. and as no other refusal does
+pub refused-apart : (m n p q : ℕ) → m < 18446744073709551616 → n < 18446744073709551616 → p < 18446744073709551616 → q < 18446744073709551616 → refused_line m p ≡ refused_line n q → (m ≡ n) × (p ≡ q)
+unfolding refused_line
+refused-apart m n p q h k x y e =
+    let f = decimal-apart m n (count_line (quoted " at ") p) (count_line (quoted " at ") q) h k (at_place p) (at_place q) (word-apart (quoted "refused ") (decimal m ++ count_line (quoted " at ") p) (decimal n ++ count_line (quoted " at ") q) e) in
+    let g = line-apart (quoted " at ") p q [] [] x y (append-nil (count_line (quoted " at ") p) ∙ f.1 ∙ sym (append-nil (count_line (quoted " at ") q))) in
+    (f.0, g.0)
+
 pub refusal-apart : (q r : Refusal) → q.place < 18446744073709551616 → r.place < 18446744073709551616 → refusal_line q ≡ refusal_line r → q ≡ r
 unfolding refusal_line
 refusal-apart q r x y e =
-    let p = decimal-apart (number q.reason) (number r.reason) (count_line (quoted " at ") q.place) (count_line (quoted " at ") r.place) (number-small q.reason) (number-small r.reason) (at_place q.place) (at_place r.place) (word-apart (quoted "refused ") (decimal (number q.reason) ++ count_line (quoted " at ") q.place) (decimal (number r.reason) ++ count_line (quoted " at ") r.place) e) in
-    let g = line-apart (quoted " at ") q.place r.place [] [] x y (append-nil (count_line (quoted " at ") q.place) ∙ p.1 ∙ sym (append-nil (count_line (quoted " at ") r.place))) in
+    let p = refused-apart (number q.reason) (number r.reason) q.place r.place (number-small q.reason) (number-small r.reason) x y e in
     let same = number-apart q.reason r.reason p.0 in
-    λ i. record { reason = same i; place = g.0 i }
+    λ i. record { reason = same i; place = p.1 i }

@@ -19,7 +19,7 @@ use Rattle.contours.proofs.Nesting.{ParentIn, Numbers}
 use Rattle.sheet.specs.Sheet.{count_line}
 use Rattle.sheet.proofs.Fronts.{decimal-most}
 use Rattle.sheet.proofs.Lengths.{line-short, number-long}
-use Rattle.printing.specs.Printing.{parent_bytes, head_line, hole_lines, corner_line, corner_lines, contour_lines, contours_lines, drawing, drawn, printed, refusal_line}
+use Rattle.printing.specs.Printing.{parent_bytes, head_line, hole_lines, corner_line, corner_lines, contour_lines, contours_lines, drawing, drawn, printed, refused_line, refusal_line}
 
 -- ---- lines
 
@@ -81,6 +81,10 @@ decimal-any w = omega (arith, digits-length 10 (places 10 20 w) w, few 20 w)
         go true h = omega arith
         go false h = omega arith
 
+pub refused-short : (told place : ℕ) → length (refused_line told place) ≤ 55
+unfolding refused_line count_line quoted
+refused-short told place = simp length-append (omega (arith, decimal-any told, decimal-any place))
+
 pub refusal-short : (r : Refusal) → length (refusal_line r) ≤ 55
-unfolding refusal_line count_line quoted
-refusal-short r = simp length-append (omega (arith, decimal-any (number r.reason), decimal-any r.place))
+unfolding refusal_line
+refusal-short r = refused-short (number r.reason) r.place

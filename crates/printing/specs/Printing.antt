@@ -58,5 +58,9 @@ printed os = drawing (map drawn os)
 
 -- ---- a refusal, and nothing else
 
+-- by any number
+unfoldable pub refused_line : (told place : ℕ) → List ℕ
+refused_line told place = quoted "refused " ++ (decimal told ++ count_line (quoted " at ") place)
+
 unfoldable pub refusal_line : Refusal → List ℕ
-refusal_line r = quoted "refused " ++ (decimal (number r.reason) ++ count_line (quoted " at ") r.place)
+refusal_line r = refused_line (number r.reason) r.place

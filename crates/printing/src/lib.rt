@@ -7,13 +7,12 @@ pub mod puts;
 pub mod sheets;
 
 ghost use Rattle.std.specs.Prelude.{map};
-ghost use Rattle.printing.specs.Printing.{contours_lines, refusal_line};
+ghost use Rattle.printing.specs.Printing.{contours_lines, refused_line};
 ghost use Rattle.printing.specs.Arrays.{drawn_row, printed_arrays};
 ghost use Rattle.printing.specs.Put.{Put};
 
 use lines::contour_lines;
 use puts::{line, number, text};
-use refusals::Refusal;
 
 // The contours, one after the other.
 fn all_lines(
@@ -46,10 +45,11 @@ pub fn print_contours(
     all_lines(out, place, corners, &contours[..n], holes)
 }
 
-pub fn print_refusal(refusal: Refusal, out: &mut [u8]) -> usize
-    ensures { Put out.old 0 (refusal_line refusal) out.new result }
+// By any number, one that no reason has too.
+pub fn print_refusal(told: u64, place: u64, out: &mut [u8]) -> usize
+    ensures { Put out.old 0 (refused_line told place) out.new result }
 {
-    let told = text(out, 0, b"refused ");
-    let end = number(out, told, u64::from(refusal.reason));
-    line(out, end, b" at ", refusal.place)
+    let begun = text(out, 0, b"refused ");
+    let end = number(out, begun, told);
+    line(out, end, b" at ", place)
 }

@@ -5,7 +5,7 @@ ghost use Rattle.printing.specs.Arrays.{part, corner_of, parent_of, drawn_row};
 ghost use Rattle.printing.specs.Put.{Put};
 
 use crate::puts::{bits, line, number, text, word};
-use view::{count_shown, part_of};
+use view::{corner_shown, count_shown, part_of};
 
 // The parent's number, given as that number + 1, or `-` for 0.
 #[tactic(auto, unfolding(crate::specs::Printing::parent_bytes, crate::specs::Arrays::parent_of, text::specs::Quoted::quoted))]
@@ -50,8 +50,10 @@ fn corner_lines(out: &mut [u8], at: usize, corners: &[[u64; 2]]) -> usize
     ensures { Put out.old at (corner_lines (map corner_of corners.now)) out.new result }
 {
     let mut place = at;
-    for corner in corners {
-        place = corner_line(out, place, corner[0], corner[1]);
+    for i in 0..count_shown(corners) {
+        if let Some(p) = corner_shown(corners, i) {
+            place = corner_line(out, place, p.x, p.y);
+        }
     }
     place
 }

@@ -3,7 +3,6 @@ use class::Operation;
 use crossing::PLAIN;
 use std::cmp::Ordering;
 use std::io;
-use test_pools::told::refused;
 
 fn before(
     rt: &impl Print,
@@ -14,7 +13,7 @@ fn before(
 ) -> io::Result<()> {
     rt.print(" before ")?;
     match records::is_before(points, marks, a, b) {
-        Err(refusal) => refused(rt, refusal),
+        Err(refusal) => print!(rt; "{refusal}"),
         Ok(is_before) => {
             if is_before {
                 rt.print("yes")
@@ -34,7 +33,7 @@ fn segments(
 ) -> io::Result<()> {
     rt.print(", segments ")?;
     match records::compare_segments(points, marks, a, b, PLAIN) {
-        Err(refusal) => refused(rt, refusal),
+        Err(refusal) => print!(rt; "{refusal}"),
         Ok(order) => match order {
             Ordering::Less => rt.print("less"),
             Ordering::Equal => rt.print("equal"),
@@ -52,7 +51,7 @@ fn fields(
 ) -> io::Result<()> {
     rt.print(" fields ")?;
     match records::compute_fields(points, marks, e, lower, Operation::Union) {
-        Err(refusal) => refused(rt, refusal),
+        Err(refusal) => print!(rt; "{refusal}"),
         Ok(()) => rt.print("done"),
     }
 }

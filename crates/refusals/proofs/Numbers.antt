@@ -1,6 +1,5 @@
 -- No two reasons have one number, and each is a 64-bit word.
 use Rattle.std.proofs.Common.{◌≡◌, ℕ, ◌<◌, ◌≢◌, cond, eqb, refl, sym, ap, ◌∙◌, arith}
-use Rattle.refusals.specs.declared.Reason as Reason
 use Rattle.refusals.specs.declared.Reason.{Reason}
 use Rattle.refusals.specs.Refusals.{number}
 

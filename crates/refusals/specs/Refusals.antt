@@ -1,6 +1,6 @@
 -- What a refused call tells.
-use Rattle.std.specs.Prelude.{ℕ, Bool, eqb, Result, Ok}
-use Rattle.refusals.specs.declared.Reason as Reason
+use Rattle.std.specs.Prelude.{ℕ, Bool, List, eqb, Result, Ok, codes, ◌++◌}
+use Rattle.std.specs.Fmt.{decimal}
 use Rattle.refusals.specs.declared.Reason.{Reason}
 use Rattle.refusals.specs.declared.Refusal.{Refusal}
 
@@ -28,3 +28,7 @@ Verdict = Result (Unit {0}) Refusal
 -- it is done
 abbrev pub passed : Verdict
 passed = Ok tt
+
+-- how a refusal is written
+abbrev pub refusal_text : Refusal → List ℕ
+refusal_text r = codes "refused " ++ (decimal (number r.reason) ++ (codes " at " ++ decimal r.place))

@@ -1,8 +1,8 @@
 // What a refused call tells: 01, 'Numbers given back'.
 #![tactic(auto)]
 
-ghost use Rattle.std.specs.Prelude.{◌≡◌};
-ghost use Rattle.refusals.specs.Refusals.{number};
+ghost use Rattle.std.specs.Prelude.{◌≡◌, Some};
+ghost use Rattle.refusals.specs.Refusals.{number, refusal_text};
 
 use std::fmt;
 
@@ -57,6 +57,8 @@ impl From<Reason> for u64 {
 }
 
 impl fmt::Display for Refusal {
+    ghost output = { λ refusal. Some (refusal_text refusal) };
+
     fn fmt<W: fmt::Write>(&self, f: &mut fmt::Formatter<W>) -> fmt::Result {
         write!(f, "refused {} at {}", u64::from(self.reason), self.place)
     }

@@ -105,7 +105,7 @@ count_from most n s = cond (eqb n 0) Malformed (cond (over (drop n s)) (count_by
 unfoldable pub count_of : List ℕ → ℕ → List ℕ → Counted
 count_of word most s = cond (begins word s) (count_from most (numeral (drop (length word) s)) (drop (length word) s)) Malformed
 
--- a layer and the bytes after it, or a refusal's number and line
+-- a layer and the bytes after it, or a refusal's reason and line
 pub data Layer : Type 0 where
   Whole : List Edge → List ℕ → Layer
   Broken : Reason → ℕ → Layer

@@ -50,6 +50,10 @@ module _ {P S : Type 0} (C : Coordinates P) (K : Store P S) where
         (meeting (classified (classified m.store m.used a lower) m.used b (Some a)) m.used m.met)
         m
 
+    -- the store alone, whatever tells that edge types have changed
+    unfoldable pub classed_again : Bool → S → ℕ → ℕ → Option ℕ → ℕ → S
+    classed_again changed s used a lower b = cond changed (classified (classified s used a lower) used b (Some a)) s
+
     module _ (crossing : Crossing P) where
       -- ---- a left event e and its neighbours in the status
 

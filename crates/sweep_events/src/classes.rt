@@ -3,13 +3,11 @@ ghost use Rattle.std.specs.Prelude.{◌≡◌};
 ghost use Rattle.events.specs.Binary64.{at_binary64};
 ghost use Rattle.events.specs.Pool.{pool, stored};
 ghost use Rattle.class.specs.Class.{shown_neighbour, shown_lower};
-ghost use Rattle.neighbours.specs.Neighbours.{meeting};
-ghost use Rattle.sweep_events.specs.Event.{is_two, neighbour_in, lower_in, classified, reclassed};
+ghost use Rattle.sweep_events.specs.Event.{is_two, neighbour_in, lower_in, classified, classed_again};
 
 use class::{Neighbour, Operation, compute_fields};
 use events::points::same_x;
 use events::pool::{read_used, store_event};
-use neighbours::Neighbours;
 use refusals::Refusal;
 
 // Vertical: the partner's x is its own, by value.
@@ -65,30 +63,28 @@ pub fn classify(
 
 // Code 2 tells that edge types have changed.
 #[tactic(auto, unfolding(crate::specs::Event::is_two))]
-fn is_two(met: Result<u32, Refusal>) -> bool
+pub(crate) fn is_two(met: Result<u32, Refusal>) -> bool
     ensures { result ≡ is_two met }
 {
     matches!(met, Ok(2))
 }
 
-// After code 2 both are classed again from the bottom up: a from its lower neighbour, then b from a.
-#[tactic(auto, unfolding(crate::specs::Event::reclassed))]
+// Both classed again from the bottom up where `changed`, whatever tells so: a from its lower neighbour, then b from a.
+#[tactic(auto, unfolding(crate::specs::Event::classed_again))]
 pub fn reclass(
     points: &mut [[u64; 2]],
     marks: &mut [[u32; 12]],
-    last: Neighbours,
+    used: u32,
+    changed: bool,
     a: u32,
     lower: Option<u32>,
     b: u32,
     operation: Operation,
-) -> Neighbours
-    ensures { meeting (pool points.new marks.new) result.used result.met ≡ reclassed at_binary64 stored operation (meeting (pool points.old marks.old) last.used last.met) a lower b }
+)
+    ensures { pool points.new marks.new ≡ classed_again at_binary64 stored operation changed (pool points.old marks.old) used a lower b }
 {
-    let met = last.met;
-    if is_two(met) {
-        classify(points, marks, last.used, a, lower, operation);
-        classify(points, marks, last.used, b, Some(a), operation);
-        return last;
+    if changed {
+        classify(points, marks, used, a, lower, operation);
+        classify(points, marks, used, b, Some(a), operation);
     }
-    last
 }

@@ -6,7 +6,7 @@ ghost use Rattle.neighbours.specs.Neighbours.{meeting};
 ghost use Rattle.sweep_events.specs.Event.{with_upper, with_lower};
 ghost use Rattle.sweep_events.specs.Event as Spec;
 
-use crate::classes::{classify, reclass};
+use crate::classes::{classify, is_two, reclass};
 use class::Operation;
 use neighbours::{Neighbours, possible_intersection};
 
@@ -21,7 +21,7 @@ fn alone(used: u32) -> Neighbours
 }
 
 // Left record e and its neighbour above.
-#[tactic(auto, unfolding(crate::specs::Event::with_upper))]
+#[tactic(auto, unfolding(crate::specs::Event::with_upper, crate::specs::Event::reclassed, crate::specs::Event::classed_again))]
 fn with_upper(
     points: &mut [[u64; 2]],
     marks: &mut [[u32; 12]],
@@ -38,13 +38,14 @@ fn with_upper(
         None => alone(used),
         Some(n) => {
             let m = possible_intersection(points, marks, used, e, n, mode);
-            reclass(points, marks, m, e, lower, n, operation)
+            reclass(points, marks, m.used, is_two(m.met), e, lower, n, operation);
+            m
         }
     }
 }
 
 // Left record e and its neighbour below, whose own lower neighbour is `lowest`.
-#[tactic(auto, unfolding(crate::specs::Event::with_lower))]
+#[tactic(auto, unfolding(crate::specs::Event::with_lower, crate::specs::Event::reclassed, crate::specs::Event::classed_again))]
 fn with_lower(
     points: &mut [[u64; 2]],
     marks: &mut [[u32; 12]],
@@ -61,7 +62,17 @@ fn with_lower(
         None => alone(used),
         Some(p) => {
             let m = possible_intersection(points, marks, used, p, e, mode);
-            reclass(points, marks, m, p, lowest, e, operation)
+            reclass(
+                points,
+                marks,
+                m.used,
+                is_two(m.met),
+                p,
+                lowest,
+                e,
+                operation,
+            );
+            m
         }
     }
 }

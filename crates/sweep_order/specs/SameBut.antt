@@ -16,7 +16,7 @@ pub record Renaming (n : ℕ) : Type 0 where
   pub to_from : (r : ℕ) → to (from r) ≡ r
   pub beyond : (r : ℕ) → n ≤ r → to r ≡ r
 
--- a refusal keeps its number and tells the record by its new name
+-- a refusal keeps its reason and tells the record by its new name
 unfoldable pub rename_refusal : (ℕ → ℕ) → Refusal → Refusal
 rename_refusal ρ r = record { reason = r.reason; place = ρ r.place }
 

@@ -1,4 +1,6 @@
 // Changes of single numbers in a pool.
+ghost use Rattle.std.specs.Prelude.{◌≡◌};
+ghost use Rattle.test_pools.specs.Changes.{with_number, with_coordinate, marks_after, points_after};
 
 // One place more than a pool may have.
 pub const PLACES: usize = 4097;
@@ -29,23 +31,33 @@ pub struct At(pub usize, pub usize, pub u64);
 // No record has it.
 pub const NOWHERE: At = At(PLACES, X, 0);
 
-fn set_mark(marks: &mut [[u32; 12]], record: usize, field: usize, value: u32) {
-    if record < marks.len() && field < 12 {
-        marks[record][field] = value;
+#[tactic(auto, unfolding(crate::specs::Changes::with_number))]
+fn set_mark(marks: &mut [[u32; 12]], row: usize, field: usize, value: u32)
+    ensures { marks.new ≡ with_number marks.old 12 row field value }
+{
+    if row < marks.len() && field < MARKS {
+        marks[row][field] = value;
     }
 }
 
-pub fn set_coordinate(points: &mut [[u64; 2]], record: usize, field: usize, value: u64) {
-    if record < points.len() && field < 2 {
-        points[record][field] = value;
+#[tactic(auto, unfolding(crate::specs::Changes::with_coordinate, crate::specs::Changes::with_number))]
+pub fn set_coordinate(points: &mut [[u64; 2]], row: usize, field: usize, value: u64)
+    ensures { points.new ≡ with_coordinate points.old row field value }
+{
+    if row < points.len() && field < 2 {
+        points[row][field] = value;
     }
 }
 
-pub fn change(points: &mut [[u64; 2]], marks: &mut [[u32; 12]], c: At) {
-    let At(record, field, value) = c;
+#[tactic(auto, unfolding(crate::specs::Changes::marks_after, crate::specs::Changes::points_after, crate::specs::Changes::with_mark))]
+pub fn change(points: &mut [[u64; 2]], marks: &mut [[u32; 12]], c: At)
+    ensures points_after { points.new ≡ points_after points.old c.0 c.1 c.2 }
+    ensures marks_after { marks.new ≡ marks_after marks.old c.0 c.1 c.2 }
+{
+    let At(row, field, value) = c;
     if field < MARKS {
-        set_mark(marks, record, field, (value & 0xffff_ffff) as u32);
+        set_mark(marks, row, field, (value % 0x1_0000_0000) as u32);
     } else {
-        set_coordinate(points, record, field - MARKS, value);
+        set_coordinate(points, row, field - MARKS, value);
     }
 }

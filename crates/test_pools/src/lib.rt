@@ -1,6 +1,5 @@
-// What the tests of records share: coordinates by their bits, changes of single numbers in a pool, and how a refusal is told.
+// What the tests of records share: coordinates by their bits, and changes of single numbers in a pool.
 #![tactic(auto)]
 
 pub mod bits;
 pub mod changes;
-pub mod told;

@@ -6,5 +6,5 @@ use Rattle.printing.specs.Arrays.{corner_of}
 use Rattle.printing.specs.Put.{Put}
 use Rattle.printing.proofs.lines.corner_lines.Given as goal
 
-abbrev pub invariant-loop-corner : goal.invariant-loop-corner
-invariant-loop-corner l = Put l.initial.out l.at (corner_lines (map corner_of (take l.corner-index l.corners))) l.out l.place
+abbrev pub invariant-loop-i : goal.invariant-loop-i
+invariant-loop-i l = Put l.initial.out l.at (corner_lines (map corner_of (take l.i l.corners))) l.out l.place

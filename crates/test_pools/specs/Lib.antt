@@ -1,0 +1,2 @@
+-- What a change leaves in a pool.
+pub mod Changes
