@@ -1,13 +1,13 @@
 -- Every word has a finite value; a word that refusal 2 passes has the value of its pattern; a number that is written as a word is read again.
 use mathlib.Core.Path.{◌≡◌, refl, sym, ap, ◌∙◌}
-use mathlib.Core.Bool.{Bool, true, false, cond}
+use mathlib.Core.Bool.{Bool, true, false, cond, false≢true}
 use mathlib.Core.Logic.{◌≢◌}
 use Prim.Native.Nat.{ℕ, ◌+◌, ◌%◌, ◌^◌, ◌<◌, ◌≤◌}
 use native.Mathlib.Omega.{arith}
-use borrow.Author.Tests.{eq-eqb, ltb-true, ltb-false, eqb-true, eqb-false}
+use borrow.Author.Tests.{lt-ltb, eq-eqb, ltb-true, ltb-false, eqb-true, eqb-false}
 use lib.Dec.{eqb, ltb, lit<}
-use lib.Ieee.{Float, binary64, of_bits, to_bits, fits, eq}
-use lib.Ieee.Bits.{of_bits-to_bits, of_bits-fits}
+use lib.Ieee.{Float, nan, inf, fin, binary64, of_bits, to_bits, fits, eq, is_nan}
+use lib.Ieee.Bits.{of_bits-to_bits, of_bits-fits, nan_bits_is, nan_bits_above}
 pub use Rattle.std.proofs.lemmas.Float.{not_nan_f64_bits}
 use Rattle.numbers.specs.Binary64.{Finite, zero, unsigned, not_finite}
 use Rattle.numbers.specs.Next.{minus_zero}
@@ -26,6 +26,16 @@ value-below w h = rw (pattern-finite w h).finite
 pub value-above : (w : ℕ) → infinite ≤ w % 2 ^ 63 → value w ≡ zero
 unfolding value
 value-above w h = rw (above-finite w h)
+
+-- a pattern above infinity's, the sign left out, is not-a-number's
+is-nan : (x : Float) → is_nan x ≡ true → x ≡ nan
+unfolding is_nan
+is-nan nan e = refl
+is-nan (inf s) e = absurd (false≢true e)
+is-nan (fin s m d) e = absurd (false≢true e)
+
+pub not-a-number : (w : ℕ) → infinite < w % 2 ^ 63 → of_bits binary64 w ≡ nan
+not-a-number w h = is-nan (of_bits binary64 w) (sym (nan_bits_is binary64 w) ∙ nan_bits_above binary64 w ∙ lt-ltb _ _ h)
 
 -- the value of a word, and which patterns are numbers
 pub ruleset patterns = (value-below, value-above, not_nan_f64_bits)

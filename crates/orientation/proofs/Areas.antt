@@ -1,8 +1,8 @@
 -- Additions to pos - neg follow each other; the three cross products come to the area.
 use mathlib.Core.Path.{◌≡◌, ap, ◌∙◌}
 use mathlib.Core.List.{List}
-use Prim.Native.Nat.{ℕ, ◌+◌}
-use native.Mathlib.Nat.{mul_comm, add-mul, mul-add}
+use Prim.Native.Nat.{ℕ, ◌+◌, ◌*◌, ◌≤◌}
+use native.Mathlib.Nat.{mul_comm, add-mul, mul-add, mul-le-mul_right}
 use native.Mathlib.Omega.{arith}
 use lib.IntN.{ℤ, pos, neg_ℤ, ◌+ℤ◌, ◌-ℤ◌, ◌*ℤ◌, +ℤ_assoc}
 use Rattle.numbers.specs.Exact.{whole}
@@ -12,7 +12,24 @@ use Rattle.orientation.specs.Words.{value, Within, Added, cap, total, cross}
 use Rattle.orientation.proofs.Differences.{same, crossed, plus, minus, times, natural, parts}
 use Rattle.orientation.proofs.Terms.{total-is}
 
+-- room for few products is room for more
+at_least : {j k : ℕ} {l : List ℕ} → j ≤ k → Within j l → Within k l
+at_least {j} {k} h w =
+    let e : j * cap ≤ k * cap = mul-le-mul_right cap h in
+    record { long = w.long; room = omega arith }
+
+pub fewer : {j k : ℕ} {p n : List ℕ} → j ≤ k → Within j p × Within j n → Within k p × Within k n
+fewer h w = (at_least h w.0, at_least h w.1)
+
 module _ {p n p' n' : List ℕ} where
+  -- room is used up by the products that are added
+  pub after : {j k : ℕ} {z : ℤ} → Within j p × Within j n → Added k z p n p' n' → Within (j + k) p' × Within (j + k) n'
+  after {j} {k} w a =
+      let e = add-mul j k cap in (
+        record { long = a.long; room = omega (arith, w.0.room) },
+        record { long = a.long'; room = omega (arith, w.1.room) },
+      )
+
   -- what is added with the two sums exchanged is taken away
   pub exchanged : {k : ℕ} {z : ℤ} → Added k z n p n' p' → Added k (neg_ℤ z) p n p' n'
   exchanged {k} {z} a =

@@ -1,6 +1,6 @@
 -- A product is the sum of the products of its words, each at its place, and six products fit.
 use mathlib.Core.Path.{◌≡◌, sym, ap, ◌∙◌}
-use Prim.Native.Nat.{ℕ, ◌+◌, ◌*◌, ◌^◌, ◌/◌, ◌%◌, ◌<◌, ◌≤◌}
+use Prim.Native.Nat.{ℕ, ◌+◌, ◌-◌, ◌*◌, ◌^◌, ◌/◌, ◌%◌, ◌<◌, ◌≤◌}
 use native.Mathlib.Nat.{mul_left_comm, mul_comm, mul_assoc, add-mul, mul-add, mul-le-mul, le_of_lt, le_trans, div-add-mod', one-mul, mod-eq_of_lt}
 use native.Mathlib.Omega.{arith}
 use lib.Dec.{lit≤, lit<}
@@ -10,6 +10,13 @@ use Rattle.orientation.specs.Words.{weight, cap, words, three}
 weight-add : (q k : ℕ) → weight (q + k) ≡ weight q * weight k
 unfolding weight
 weight-add q k = rw (mul-add, pow-add)
+
+-- a product of two words, and a word more, fits
+pub word-product : {x a : ℕ} → x < 2 ^ 32 → a < 2 ^ 32 → x * a ≤ 2 ^ 64 - 2 ^ 32
+word-product {x} {a} h k =
+    let l : x ≤ 2 ^ 32 - 1 = omega arith in
+    let m : a ≤ 2 ^ 32 - 1 = omega arith in
+    le_trans (mul-le-mul l m) (lit≤ tt)
 
 -- a word times three words
 pub row_sum : (x a b c q : ℕ) → x * three a b c * weight q ≡ x * a * weight q + x * b * weight (q + 1) + x * c * weight (q + 2)
@@ -29,6 +36,19 @@ shifted_one r h = ap (λ (n : ℕ). n % 2 ^ 64) (one-mul (2 ^ r)) ∙ (let l : r
 pub halves : (y p : ℕ) → y * p ≡ y % 2 ^ 32 * p + 2 ^ 32 * (y / 2 ^ 32 * p)
 halves y p =
     ap (λ (n : ℕ). n * p) (sym (div-add-mod' y (2 ^ 32))) ∙ rw (add-mul, mul_comm (y / 2 ^ 32) (2 ^ 32), mul_assoc) (omega arith)
+
+-- each half, shifted by less than a word, fits
+pub low_fits : (y : ℕ) {r : ℕ} → r < 32 → y % 2 ^ 32 * 2 ^ r ≤ (2 ^ 32 - 1) * 2 ^ 31
+low_fits y {r} h =
+    let a : y % 2 ^ 32 ≤ 2 ^ 32 - 1 = omega arith in
+    let b : r ≤ 31 = omega arith in
+    mul-le-mul a (pow_mono b)
+
+pub high_fits : {y r : ℕ} → y < 2 ^ 53 → r < 32 → y / 2 ^ 32 * 2 ^ r ≤ (2 ^ 21 - 1) * 2 ^ 31
+high_fits {y} {r} k h =
+    let a : y / 2 ^ 32 ≤ 2 ^ 21 - 1 = omega arith in
+    let b : r ≤ 31 = omega arith in
+    mul-le-mul a (pow_mono b)
 
 -- the three words of l + 2^32 * u
 pub spread-sum : (l u n : ℕ) → n ≡ l + 2 ^ 32 * u → three (l % 2 ^ 32) ((u + l / 2 ^ 32) % 2 ^ 32) ((u + l / 2 ^ 32) / 2 ^ 32) ≡ n
