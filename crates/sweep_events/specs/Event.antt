@@ -43,16 +43,17 @@ module _ {P S : Type 0} (C : Coordinates P) (K : Store P S) where
     unfoldable pub classified : S → ℕ → ℕ → Option ℕ → S
     classified s used e lower = K.store s e (fields op (look K s used e) (lower_in s used lower))
 
-    -- after code 2 both are classed again from the bottom up: a from its lower neighbour, then b from a
+    -- both classed again from the bottom up: a from its lower neighbour, then b from a
+    abbrev pub both_classified : S → ℕ → ℕ → Option ℕ → ℕ → S
+    both_classified s used a lower b = classified (classified s used a lower) used b (Some a)
+
+    -- after code 2
     unfoldable pub reclassed : Meeting S → ℕ → Option ℕ → ℕ → Meeting S
-    reclassed m a lower b =
-        cond (is_two m.met)
-        (meeting (classified (classified m.store m.used a lower) m.used b (Some a)) m.used m.met)
-        m
+    reclassed m a lower b = cond (is_two m.met) (meeting (both_classified m.store m.used a lower b) m.used m.met) m
 
     -- the store alone, whatever tells that edge types have changed
     unfoldable pub classed_again : Bool → S → ℕ → ℕ → Option ℕ → ℕ → S
-    classed_again changed s used a lower b = cond changed (classified (classified s used a lower) used b (Some a)) s
+    classed_again changed s used a lower b = cond changed (both_classified s used a lower b) s
 
     module _ (crossing : Crossing P) where
       -- ---- a left event e and its neighbours in the status

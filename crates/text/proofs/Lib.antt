@@ -9,3 +9,4 @@ pub mod Forth
 pub mod Within
 pub mod Table
 pub mod Leading
+pub mod Decimal
